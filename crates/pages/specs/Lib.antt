@@ -1,0 +1,5 @@
+pub mod Bytes
+pub mod Memory
+pub mod Pages
+pub mod Places
+pub mod Calls

@@ -1,0 +1,87 @@
+// Bytes from any address on, also across pages and past 2^64.
+ghost use mathlib.Core.Path.{_≡_};
+ghost use Prim.Native.Nat.{_+_, _-_, _%_, _^_, _≤_, _<_, min};
+ghost use lib.ListN.{length};
+ghost use lib.Seq.{sets};
+ghost use Rattle.pages.specs.Memory.{span};
+ghost use Rattle.pages.specs.Pages.{byteAt};
+ghost use Rattle.pages.specs.Calls.{given, readDef};
+use crate::bytes;
+use crate::page;
+use crate::page::Page;
+use crate::page::Place;
+
+// Where a reader stands, and how many bytes it may still read.
+pub struct Position {
+    pub address: u64,
+    pub count: u64,
+}
+
+pub enum Read {
+    // So many bytes were read, and the reader stands there now.
+    Moved(usize, Position),
+    Overused,
+}
+
+// How many of count bytes from the address on lie in its page.
+fn in_page(address: u64, count: usize) -> usize
+    ensures { λ r. ⌜ (r ≤ count) × (address % 4096 + r ≤ 4096) × (0 < count → 0 < r) ⌝ }
+{
+    let rest = Page::SIZE - (address % Page::ADDRESSES) as usize;
+    if rest < count { rest } else { count }
+}
+
+// Bytes that lie in one page, to buf from a place on.
+fn copy_in_page(pages: &[u8], used: usize, address: u64, buf: &mut [u8], at: usize, count: usize)
+    requires { ⌜ (address % 4096 + count ≤ 4096) × (at + count ≤ length (now buf)) ⌝ }
+    ensures { λ _. ⌜ now (buf .exit) ≡ sets (now (buf .entry)) at (span (byteAt (now (pages .entry)) used) address count) ⌝ }
+{
+    let place = page::place_of(pages, used, address);
+    match place {
+        Place::At(k) => bytes::copy(pages, k, buf, at, count),
+        Place::Absent => bytes::clear(buf, at, count),
+        Place::Overused => bytes::clear(buf, at, count),
+    }
+}
+
+// count bytes from the address on, to the front of buf: one lookup a page.
+fn copy_memory(pages: &[u8], used: usize, address: u64, buf: &mut [u8], count: usize)
+    requires { ⌜ count ≤ length (now buf) ⌝ }
+    ensures { λ _. ⌜ now (buf .exit) ≡ sets (now (buf .entry)) 0 (span (byteAt (now (pages .entry)) used) address count) ⌝ }
+{
+    let mut done = 0;
+    let mut at = address;
+    while done < count {
+        let n = in_page(at, count - done);
+        copy_in_page(pages, used, at, buf, done, n);
+        at = std::num::wrapping_add_u64(at, n as u64);
+        done += n;
+    }
+}
+
+fn least(a: u64, b: usize) -> usize
+    ensures { λ r. ⌜ r ≡ min a b ⌝ }
+{
+    if a < b as u64 { a as usize } else { b }
+}
+
+impl Position {
+    // As many bytes as may be read and buf holds.
+    pub fn read(self, pages: &[u8], used: usize, buf: &mut [u8]) -> Read
+        ensures { λ r. ⌜ given r (now (buf .exit)) ≡ readDef (now (pages .entry)) used self (now (buf .entry)) ⌝ }
+    {
+        if pages.len() / Page::RECORD_SIZE < used {
+            return Read::Overused;
+        }
+        let n = least(self.count, buf.len());
+        copy_memory(pages, used, self.address, buf, n);
+        let address = std::num::wrapping_add_u64(self.address, n as u64);
+        Read::Moved(
+            n,
+            Position {
+                address,
+                count: self.count - n as u64,
+            },
+        )
+    }
+}
