@@ -1,0 +1,64 @@
+# For the commands beside this file: finds places, installs what is missing, builds. They come with $here set.
+# A shell's names are shared by all of it: what is set here is here, target, binaries, driver, as_root, HOWITZER_SRC.
+
+set -eu
+
+target=$here/target
+binaries=$target/rust/release
+driver=$target/driver
+
+say() {
+    echo "compare: $*" >&2
+}
+
+# need COMMAND PACKAGE: installs Debian's package unless the command is there.
+need() {
+    if command -v "$1" >/dev/null 2>&1; then
+        return
+    fi
+    say "installing Debian's $2 for $1"
+    as_root=
+    [ "$(id -u)" = 0 ] || as_root=sudo
+    $as_root apt-get update -qq >&2
+    $as_root apt-get install -y -qq --no-install-recommends "$2" >&2
+}
+
+# The folder with the unchanged Rust: HOWITZER_SRC, by default ../shared/docs/src beside the repository.
+find_sources() {
+    HOWITZER_SRC=${HOWITZER_SRC:-$here/../../shared/docs/src}
+    if ! [ -d "$HOWITZER_SRC/crates" ]; then
+        say "no folder $HOWITZER_SRC/crates: set HOWITZER_SRC to a folder that holds the Rust's crates/"
+        exit 1
+    fi
+    HOWITZER_SRC=$(cd "$HOWITZER_SRC" && pwd)
+    export HOWITZER_SRC
+    need sha256sum coreutils
+    (cd "$HOWITZER_SRC" && sha256sum --check --quiet "$here/rust/howitzer/sources.sha256")
+    say "the Rust files have the bytes that rust/howitzer/sources.sha256 lists"
+}
+
+# The unchanged Rust with its stand-ins, and the judges: release profile, overflow checks off.
+build_rust() {
+    find_sources
+    need cc gcc
+    need cargo cargo
+    say "building the Rust and the judges"
+    CARGO_TARGET_DIR=$target/rust cargo build --release --offline --quiet --manifest-path "$here/rust/Cargo.toml"
+}
+
+# The program that runs single instructions under QEMU.
+build_driver() {
+    need qemu-mips64 qemu-user
+    need mips64-linux-gnuabi64-as binutils-mips64-linux-gnuabi64
+    say "assembling the driver for QEMU"
+    mkdir -p "$target"
+    mips64-linux-gnuabi64-as -EB -mabi=64 -march=mips64 -o "$driver.o" "$here/qemu/driver.s"
+    mips64-linux-gnuabi64-ld -EB -static -T "$here/qemu/driver.ld" -o "$driver" "$driver.o"
+}
+
+# make_lists FOLDER: writes both fixed lists into it.
+make_lists() {
+    mkdir -p "$1"
+    "$binaries/rules0" "$1/rules0.vec"
+    "$binaries/rules1" "$driver" "$1/rules1.vec"
+}
