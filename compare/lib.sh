@@ -1,9 +1,10 @@
 # For the commands beside this file: finds places, installs what is missing, builds. They come with $here set.
-# A shell's names are shared by all of it: what is set here is here, target, binaries, driver, as_root, HOWITZER_SRC.
+# A shell's names are shared by all of it: what is set here is here, target, committed, binaries, driver, as_root, HOWITZER_SRC.
 
 set -eu
 
 target=$here/target
+committed=$here/../crates/replay/data
 binaries=$target/rust/release
 driver=$target/driver
 

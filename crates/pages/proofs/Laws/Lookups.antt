@@ -8,13 +8,13 @@ use native.Mathlib.Nat.{add-zero, zero-add}
 use native.Mathlib.Omega.{arith}
 use lib.Dec.{eqb, ltb}
 use lib.ListN.{length}
-use borrow.Author.Tests.{lt-ltb, le-ltb, eq-eqb, ne-eqb, eqb-true, ltb-true, ltb-false}
+use borrow.Author.Tests.{lt-ltb, le-ltb, eq-eqb, ne-eqb, eqb-true, ltb-false}
 use Rattle.pages.specs.Pages.{whole, numberOf, firstOf, lookup}
 use Rattle.pages.specs.Places.{placeOf, toPlace}
 use Rattle.pages.specs.declared.page.Lookup.{Lookup}
 use Rattle.pages.specs.declared.page.Lookup.the-variants.{Record, Absent, Overused}
 use Rattle.pages.specs.declared.page.Place.{Place}
-use Rattle.pages.specs.declared.page.Place.the-variants.{At, Absent as Nowhere, Overused as TooMany}
+use Rattle.pages.specs.declared.page.Place.the-variants.{At, Overused as TooMany}
 
 -- ---- the lookup, record by record
 

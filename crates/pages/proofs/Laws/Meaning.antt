@@ -1,9 +1,9 @@
 -- What a store means: the memory that the records are, with the bytes written.
 use mathlib.Core.Path.{_≡_, refl, sym, ap, _∙_, fun-ext}
 use mathlib.Core.Bool.{Bool, true, false, cond}
-use mathlib.Core.List.{List, [], _∷_}
-use Prim.Native.Nat.{ℕ, zero, suc, _+_, _*_, _-_, _/_, _%_, _^_, _≤_, _<_, min}
-use native.Mathlib.Nat.{add-zero, zero-add, mod-eq-of-lt}
+use mathlib.Core.List.{List}
+use Prim.Native.Nat.{ℕ, _+_, _*_, _-_, _/_, _%_, _^_, _≤_, _<_}
+use native.Mathlib.Nat.{zero-add, mod-eq-of-lt}
 use native.Mathlib.Numerals.{add-one}
 use native.Mathlib.Decide.{ℕ-discrete}
 use native.Mathlib.Omega.{arith}
@@ -13,7 +13,7 @@ use lib.Seq.{sets, length-sets}
 use borrow.Author.Tests.{lt-ltb, le-ltb, le-leb, lt-leb, eq-eqb}
 use Rattle.pages.specs.Bytes.{cell, row, big, bytesOf, zeros}
 use Rattle.pages.specs.Memory.{Memory, write, span}
-use Rattle.pages.specs.Pages.{whole, numberOf, firstOf, lookup, byteIn, byteAt, openPage}
+use Rattle.pages.specs.Pages.{whole, numberOf, lookup, byteIn, byteAt, openPage}
 use Rattle.pages.specs.Calls.{Set, stored, storeDef, setDef, getDef}
 use Rattle.pages.specs.declared.page.Lookup.{Lookup}
 use Rattle.pages.specs.declared.page.Lookup.the-variants.{Record, Absent, Overused}

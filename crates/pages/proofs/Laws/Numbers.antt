@@ -1,7 +1,7 @@
 -- Big-endian numbers, over the width.
-use mathlib.Core.Path.{_≡_, refl, sym, ap, _∙_}
+use mathlib.Core.Path.{_≡_, refl, sym, _∙_}
 use mathlib.Core.List.{List, [], _∷_, _++_}
-use Prim.Native.Nat.{ℕ, zero, suc, _+_, _-_, _*_, _/_, _%_, _^_, _≤_, _<_}
+use Prim.Native.Nat.{ℕ, zero, suc, _+_, _-_, _/_, _%_, _^_, _<_}
 use native.Mathlib.Nat.{zero-add, pow-suc}
 use native.Mathlib.Numerals.{add-one}
 use native.Mathlib.Decide.{decLt}

@@ -4,7 +4,7 @@ use mathlib.Core.Bool.{Bool, true, false, cond}
 use mathlib.Core.List.{List}
 use Prim.Native.Nat.{ℕ, _+_, _*_, _/_, _%_, _≤_, _<_}
 use native.Mathlib.Omega.{arith}
-use lib.Dec.{eqb, ltb}
+use lib.Dec.{ltb}
 use lib.ListN.{length}
 use lib.Seq.{sets, length-sets}
 use borrow.Author.Tests.{eq-eqb, ne-eqb, lt-ltb, le-ltb, ltb-true}
@@ -16,7 +16,6 @@ use Rattle.pages.specs.declared.page.Place.{Place}
 use Rattle.pages.specs.declared.page.Place.the-variants.{At, Absent as Nowhere, Overused as TooMany}
 use Rattle.pages.specs.declared.page.Room.{Room}
 use Rattle.pages.specs.declared.page.Room.the-variants.{At as RoomAt, Full, Overused as RoomOverused}
-use Rattle.pages.specs.declared.memory.Stored.{Stored}
 use Rattle.pages.specs.declared.memory.Stored.the-variants.{Used, Misaligned, Overused as OverusedStore, Full as FullStore}
 use Rattle.pages.specs.declared.page.Lookup.{Lookup}
 use Rattle.pages.specs.declared.page.Lookup.the-variants.{Record, Absent, Overused}

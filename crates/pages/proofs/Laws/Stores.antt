@@ -6,16 +6,15 @@ use mathlib.Core.List.{List}
 use Prim.Native.Nat.{ℕ, _+_, _*_, _/_, _%_, _≤_, _<_}
 use native.Mathlib.Decide.{decLt}
 use native.Mathlib.Omega.{arith}
-use lib.Dec.{eqb, ltb}
+use lib.Dec.{eqb}
 use lib.ListN.{length}
 use lib.Seq.{sets, length-sets}
 use borrow.Author.Tests.{eq-eqb, eqb-true, lt-ltb, le-ltb}
-use Rattle.pages.specs.Bytes.{cell, bytesOf, zeros}
+use Rattle.pages.specs.Bytes.{bytesOf, zeros}
 use Rattle.pages.specs.Pages.{whole, lookup, openPage}
 use Rattle.pages.specs.Calls.{Set, stored, storeIn, storeDef, setDef}
 use Rattle.pages.specs.declared.page.Lookup.{Lookup}
 use Rattle.pages.specs.declared.page.Lookup.the-variants.{Record, Absent, Overused}
-use Rattle.pages.specs.declared.memory.Stored.{Stored}
 use Rattle.pages.specs.declared.memory.Stored.the-variants.{Used, Misaligned, Overused as OverusedStore, Full}
 use Rattle.pages.proofs.Laws.Runs.{Bytes, row-bytes, sets-bytes}
 use Rattle.pages.proofs.Laws.Numbers.{bytes-bytes}

@@ -1,7 +1,6 @@
-use Prim.Native.Nat.{ℕ, _≤_, _<_, _+_, _-_, _%_, _^_}
-use mathlib.Core.Path.{_≡_, _∙_, sym, refl, ap}
+use Prim.Native.Nat.{_≤_, _+_, _-_, _%_, _^_}
+use mathlib.Core.Path.{_≡_, _∙_, refl, ap}
 use native.Mathlib.Omega.{arith}
-use native.Mathlib.Nat.{add-zero, zero-add}
 use lib.ListN.{length}
 use lib.Seq.{sets, length-sets}
 use Rattle.pages.specs.Bytes.{row}

@@ -1,0 +1,9 @@
+pub mod Words
+pub mod Isa
+pub mod OpcodeMap
+pub mod Effects
+pub mod Alu
+pub mod HiLo
+pub mod Loads
+pub mod Stores
+pub mod Kernel
