@@ -6,3 +6,4 @@ pub mod Loads
 pub mod Rooms
 pub mod Stores
 pub mod Meaning
+pub mod Places

@@ -2,10 +2,10 @@
 use Prim.Native.Nat.{ℕ, _+_, _-_, _*_, _/_, _%_, _^_, min}
 use mathlib.Core.Bool.{cond}
 use mathlib.Core.List.{List}
-use lib.Dec.{eqb, ltb}
+use lib.Dec.{eqb, ltb, leb}
 use lib.ListN.{length}
 use lib.Seq.{sets}
-use Rattle.pages.specs.Bytes.{big, bytesOf}
+use Rattle.pages.specs.Bytes.{cell, row, big, bytesOf}
 use Rattle.pages.specs.Memory.{Memory, span}
 use Rattle.pages.specs.Pages.{whole, lookup, byteAt, openPage}
 use Rattle.pages.specs.declared.page.Lookup.{Lookup}
@@ -17,6 +17,20 @@ use Rattle.pages.specs.declared.memory.Stored.the-variants.{Used, Misali
 use Rattle.pages.specs.declared.reader.Position.{Position}
 use Rattle.pages.specs.declared.reader.Read.{Read}
 use Rattle.pages.specs.declared.reader.Read.the-variants.{Moved, Overused as OverusedRead}
+
+-- ---- bytes of a slice: what does not lie in it reads as 0, and is not written
+
+-- the number of the n bytes from a place on
+unfoldable pub numberAt : ℕ → List ℕ → ℕ → ℕ
+numberAt n s at = cond (leb (at + n) (length s)) (big n (cell s) at) 0
+
+-- the slice with the bytes vs from a place on
+unfoldable pub putDef : List ℕ → ℕ → List ℕ → List ℕ
+putDef s at vs = cond (leb (at + length vs) (length s)) (sets s at vs) s
+
+-- count bytes of s from a place on, put into d
+unfoldable pub copyDef : List ℕ → ℕ → List ℕ → ℕ → ℕ → List ℕ
+copyDef s from d at count = cond (leb (from + count) (length s)) (putDef d at (row (cell s) from count)) d
 
 -- ---- get_word and get_doubleword, at n bytes
 

@@ -1,97 +1,63 @@
-// Big-endian numbers and runs of bytes at a place of a slice. The callers in this crate keep the places inside.
+// Big-endian numbers and runs of bytes at any place of a slice. What does not lie in the slice reads as 0 and is not written.
 ghost use mathlib.Core.Path.{_≡_};
-ghost use Prim.Native.Nat.{_+_, _*_, _<_, _≤_};
-ghost use lib.ListN.{length};
-ghost use lib.Seq.{sets};
-ghost use Rattle.pages.specs.Bytes.{big, bytesOf, cell, row, zeros};
+ghost use Rattle.pages.specs.Bytes.{bytesOf, zeros};
+ghost use Rattle.pages.specs.Calls.{numberAt, putDef, copyDef};
+use crate::inside;
 
-fn wide(x: u8) -> u64
-    ensures { λ r. ⌜ (r ≡ x) × (r < 256) ⌝ }
-{
-    x as u64
-}
-
-// Four bytes by Horner's rule: one load and a byte swap once compiled.
 pub fn word_at(s: &[u8], at: usize) -> u64
-    requires { ⌜ at + 4 ≤ length (now s) ⌝ }
-    ensures { λ r. ⌜ r ≡ big 4 (cell (now (s .entry))) at ⌝ }
+    ensures { λ r. ⌜ r ≡ numberAt 4 (now (s .entry)) at ⌝ }
 {
-    let b0 = wide(s[at]);
-    let b1 = wide(s[at + 1]);
-    let b2 = wide(s[at + 2]);
-    let b3 = wide(s[at + 3]);
-    ((b0 * 256 + b1) * 256 + b2) * 256 + b3
+    if inside::holds(s.len(), at, 4) {
+        return inside::word_at(s, at);
+    }
+    0
 }
 
 pub fn doubleword_at(s: &[u8], at: usize) -> u64
-    requires { ⌜ at + 8 ≤ length (now s) ⌝ }
-    ensures { λ r. ⌜ r ≡ big 8 (cell (now (s .entry))) at ⌝ }
+    ensures { λ r. ⌜ r ≡ numberAt 8 (now (s .entry)) at ⌝ }
 {
-    let b0 = wide(s[at]);
-    let b1 = wide(s[at + 1]);
-    let b2 = wide(s[at + 2]);
-    let b3 = wide(s[at + 3]);
-    let b4 = wide(s[at + 4]);
-    let b5 = wide(s[at + 5]);
-    let b6 = wide(s[at + 6]);
-    let b7 = wide(s[at + 7]);
-    ((((((b0 * 256 + b1) * 256 + b2) * 256 + b3) * 256 + b4) * 256 + b5) * 256 + b6) * 256 + b7
+    if inside::holds(s.len(), at, 8) {
+        return inside::doubleword_at(s, at);
+    }
+    0
 }
 
 pub fn put_word(s: &mut [u8], at: usize, value: u32)
-    requires { ⌜ at + 4 ≤ length (now s) ⌝ }
-    ensures { λ _. ⌜ now (s .exit) ≡ sets (now (s .entry)) at (bytesOf 4 value) ⌝ }
+    ensures { λ _. ⌜ now (s .exit) ≡ putDef (now (s .entry)) at (bytesOf 4 value) ⌝ }
 {
-    let v2 = value / 256;
-    let v1 = v2 / 256;
-    let v0 = v1 / 256;
-    s[at] = (v0 % 256) as u8;
-    s[at + 1] = (v1 % 256) as u8;
-    s[at + 2] = (v2 % 256) as u8;
-    s[at + 3] = (value % 256) as u8;
+    if inside::holds(s.len(), at, 4) {
+        inside::put_word(s, at, value);
+        return;
+    }
 }
 
 pub fn put_doubleword(s: &mut [u8], at: usize, value: u64)
-    requires { ⌜ at + 8 ≤ length (now s) ⌝ }
-    ensures { λ _. ⌜ now (s .exit) ≡ sets (now (s .entry)) at (bytesOf 8 value) ⌝ }
+    ensures { λ _. ⌜ now (s .exit) ≡ putDef (now (s .entry)) at (bytesOf 8 value) ⌝ }
 {
-    let v6 = value / 256;
-    let v5 = v6 / 256;
-    let v4 = v5 / 256;
-    let v3 = v4 / 256;
-    let v2 = v3 / 256;
-    let v1 = v2 / 256;
-    let v0 = v1 / 256;
-    s[at] = (v0 % 256) as u8;
-    s[at + 1] = (v1 % 256) as u8;
-    s[at + 2] = (v2 % 256) as u8;
-    s[at + 3] = (v3 % 256) as u8;
-    s[at + 4] = (v4 % 256) as u8;
-    s[at + 5] = (v5 % 256) as u8;
-    s[at + 6] = (v6 % 256) as u8;
-    s[at + 7] = (value % 256) as u8;
-}
-
-// count zeros from a place on.
-pub fn clear(s: &mut [u8], at: usize, count: usize)
-    requires { ⌜ at + count ≤ length (now s) ⌝ }
-    ensures { λ _. ⌜ now (s .exit) ≡ sets (now (s .entry)) at (zeros count) ⌝ }
-{
-    let mut i = 0;
-    while i < count {
-        s[at + i] = 0;
-        i += 1;
+    if inside::holds(s.len(), at, 8) {
+        inside::put_doubleword(s, at, value);
+        return;
     }
 }
 
 // count bytes of src from one place on, to dst from another.
 pub fn copy(src: &[u8], from: usize, dst: &mut [u8], at: usize, count: usize)
-    requires { ⌜ (from + count ≤ length (now src)) × (at + count ≤ length (now dst)) ⌝ }
-    ensures { λ _. ⌜ now (dst .exit) ≡ sets (now (dst .entry)) at (row (cell (now (src .entry))) from count) ⌝ }
+    ensures { λ _. ⌜ now (dst .exit) ≡ copyDef (now (src .entry)) from (now (dst .entry)) at count ⌝ }
 {
-    let mut i = 0;
-    while i < count {
-        dst[at + i] = src[from + i];
-        i += 1;
+    if !inside::holds(src.len(), from, count) {
+        return;
+    }
+    if !inside::holds(dst.len(), at, count) {
+        return;
+    }
+    inside::copy(src, from, dst, at, count);
+}
+
+pub fn clear(s: &mut [u8], at: usize, count: usize)
+    ensures { λ _. ⌜ now (s .exit) ≡ putDef (now (s .entry)) at (zeros count) ⌝ }
+{
+    if inside::holds(s.len(), at, count) {
+        inside::clear(s, at, count);
+        return;
     }
 }

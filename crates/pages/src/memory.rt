@@ -1,7 +1,7 @@
 // Words and doublewords at aligned addresses.
 ghost use mathlib.Core.Path.{_≡_};
 ghost use Rattle.pages.specs.Calls.{getDef, stored, setDef};
-use crate::bytes;
+use crate::inside;
 use crate::page;
 use crate::page::Place;
 use crate::page::Room;
@@ -36,7 +36,7 @@ pub fn get_word(pages: &[u8], used: usize, address: u64) -> Loaded
     }
     let place = page::place_of(pages, used, address);
     match place {
-        Place::At(k) => Loaded::Value(bytes::word_at(pages, k)),
+        Place::At(k) => Loaded::Value(inside::word_at(pages, k)),
         Place::Absent => Loaded::Value(0),
         Place::Overused => Loaded::Overused,
     }
@@ -50,7 +50,7 @@ pub fn get_doubleword(pages: &[u8], used: usize, address: u64) -> Loaded
     }
     let place = page::place_of(pages, used, address);
     match place {
-        Place::At(k) => Loaded::Value(bytes::doubleword_at(pages, k)),
+        Place::At(k) => Loaded::Value(inside::doubleword_at(pages, k)),
         Place::Absent => Loaded::Value(0),
         Place::Overused => Loaded::Overused,
     }
@@ -73,7 +73,7 @@ pub fn set_word(pages: &mut [u8], used: usize, address: u64, value: u32) -> Stor
     let room = page::make_room(pages, used, address);
     match room {
         Room::At(k, more) => {
-            bytes::put_word(pages, k, value);
+            inside::put_word(pages, k, value);
             Stored::Used(more)
         }
         Room::Full => Stored::Full,
@@ -90,7 +90,7 @@ pub fn set_doubleword(pages: &mut [u8], used: usize, address: u64, value: u64) -
     let room = page::make_room(pages, used, address);
     match room {
         Room::At(k, more) => {
-            bytes::put_doubleword(pages, k, value);
+            inside::put_doubleword(pages, k, value);
             Stored::Used(more)
         }
         Room::Full => Stored::Full,

@@ -3,7 +3,7 @@ ghost use mathlib.Core.Path.{_≡_};
 ghost use Prim.Native.Nat.{_<_};
 ghost use Rattle.pages.specs.Pages.{lookup, openPage, whole};
 ghost use Rattle.pages.specs.Places.{placeOf, room, roomOf};
-use crate::bytes;
+use crate::inside;
 
 pub struct Page {
     pub number: u64,
@@ -38,7 +38,7 @@ pub fn page_lookup(pages: &[u8], used: usize, number: u64) -> Lookup
     }
     let mut i = 0;
     while i < used {
-        if bytes::doubleword_at(pages, i * Page::RECORD_SIZE) == number {
+        if inside::doubleword_at(pages, i * Page::RECORD_SIZE) == number {
             return Lookup::Record(i);
         }
         i += 1;
@@ -71,8 +71,8 @@ fn open_page(pages: &mut [u8], next: usize, number: u64)
     ensures { λ _. ⌜ now (pages .exit) ≡ openPage (now (pages .entry)) next number ⌝ }
 {
     let at = next * Page::RECORD_SIZE;
-    bytes::put_doubleword(pages, at, number);
-    bytes::clear(pages, at + Page::NUMBER_SIZE, Page::SIZE);
+    inside::put_doubleword(pages, at, number);
+    inside::clear(pages, at + Page::NUMBER_SIZE, Page::SIZE);
 }
 
 // Where a store to an address goes, and how many records are used then.

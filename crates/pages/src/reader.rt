@@ -5,8 +5,8 @@ ghost use lib.ListN.{length};
 ghost use lib.Seq.{sets};
 ghost use Rattle.pages.specs.Memory.{span};
 ghost use Rattle.pages.specs.Pages.{byteAt};
-ghost use Rattle.pages.specs.Calls.{given, readDef};
-use crate::bytes;
+ghost use Rattle.pages.specs.Calls.{given, readDef, putDef};
+use crate::inside;
 use crate::page;
 use crate::page::Page;
 use crate::page::Place;
@@ -38,24 +38,34 @@ fn copy_in_page(pages: &[u8], used: usize, address: u64, buf: &mut [u8], at: usi
 {
     let place = page::place_of(pages, used, address);
     match place {
-        Place::At(k) => bytes::copy(pages, k, buf, at, count),
-        Place::Absent => bytes::clear(buf, at, count),
-        Place::Overused => bytes::clear(buf, at, count),
+        Place::At(k) => inside::copy(pages, k, buf, at, count),
+        Place::Absent => inside::clear(buf, at, count),
+        Place::Overused => inside::clear(buf, at, count),
     }
 }
 
-// count bytes from the address on, to the front of buf: one lookup a page.
-fn copy_memory(pages: &[u8], used: usize, address: u64, buf: &mut [u8], count: usize)
-    requires { ⌜ count ≤ length (now buf) ⌝ }
-    ensures { λ _. ⌜ now (buf .exit) ≡ sets (now (buf .entry)) 0 (span (byteAt (now (pages .entry)) used) address count) ⌝ }
+// count bytes from the address on, to buf from a place on: one lookup a page.
+fn copy_memory(pages: &[u8], used: usize, address: u64, buf: &mut [u8], at: usize, count: usize)
+    requires { ⌜ at + count ≤ length (now buf) ⌝ }
+    ensures { λ _. ⌜ now (buf .exit) ≡ sets (now (buf .entry)) at (span (byteAt (now (pages .entry)) used) address count) ⌝ }
 {
     let mut done = 0;
-    let mut at = address;
+    let mut next = address;
     while done < count {
-        let n = in_page(at, count - done);
-        copy_in_page(pages, used, at, buf, done, n);
-        at = std::num::wrapping_add_u64(at, n as u64);
+        let n = in_page(next, count - done);
+        copy_in_page(pages, used, next, buf, at + done, n);
+        next = std::num::wrapping_add_u64(next, n as u64);
         done += n;
+    }
+}
+
+// The same where the bytes lie in buf, and nothing where they do not.
+pub fn copy_out(pages: &[u8], used: usize, address: u64, buf: &mut [u8], at: usize, count: usize)
+    ensures { λ _. ⌜ now (buf .exit) ≡ putDef (now (buf .entry)) at (span (byteAt (now (pages .entry)) used) address count) ⌝ }
+{
+    if inside::holds(buf.len(), at, count) {
+        copy_memory(pages, used, address, buf, at, count);
+        return;
     }
 }
 
@@ -74,7 +84,7 @@ impl Position {
             return Read::Overused;
         }
         let n = least(self.count, buf.len());
-        copy_memory(pages, used, self.address, buf, n);
+        copy_memory(pages, used, self.address, buf, 0, n);
         let address = std::num::wrapping_add_u64(self.address, n as u64);
         Read::Moved(
             n,

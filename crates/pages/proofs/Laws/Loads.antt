@@ -22,7 +22,7 @@ use Rattle.pages.specs.declared.memory.Loaded.{Loaded}
 use Rattle.pages.specs.declared.memory.Loaded.the-variants.{Value, Misaligned, Overused as OverusedLoad}
 use Rattle.pages.specs.declared.reader.Position.{Position}
 use Rattle.pages.specs.declared.reader.Read.the-variants.{Moved, Overused as OverusedRead}
-use Rattle.pages.proofs.Laws.Runs.{row-ext, sets-join}
+use Rattle.pages.proofs.Laws.Runs.{row-ext, length-row, sets-join}
 use Rattle.pages.proofs.Laws.Numbers.{big-ext}
 use Rattle.pages.proofs.Laws.Lookups.{place-over, place-fine}
 
@@ -113,12 +113,16 @@ pub span-placed : (n : ℕ) (p : List ℕ) (used a : ℕ) {r f : Place} → a < 
 span-placed n p used a small fits e t = ap (rowAt n p) (sym t ∙ e) ∙ sym (span-at n p used a small fits)
 
 -- a span in two pieces
-pub span-join : (d : List ℕ) (m : ℕ → ℕ) (a b n k : ℕ) → b ≡ (a + n) % 2 ^ 64 → sets (sets d 0 (span m a n)) n (span m b k) ≡ sets d 0 (span m a (n + k))
+pub span-join : (d : List ℕ) (at : ℕ) (m : ℕ → ℕ) (a b n k : ℕ) → b ≡ (a + n) % 2 ^ 64
+    → sets (sets d at (span m a n)) (at + n) (span m b k) ≡ sets d at (span m a (n + k))
 unfolding span
-span-join d m a b n k e =
-    ap (sets (sets d 0 (row (λ c. m (c % 2 ^ 64)) a n)) n) (row-ext k _ _ b (a + n) (λ i l. ap m (omega arith)))
-    ∙ ap (λ (i : ℕ). sets (sets d 0 (row (λ c. m (c % 2 ^ 64)) a n)) i (row (λ c. m (c % 2 ^ 64)) (a + n) k)) (sym (zero-add n))
-    ∙ sets-join d 0 (λ c. m (c % 2 ^ 64)) a n k
+span-join d at m a b n k e =
+    ap (sets (sets d at (row (λ c. m (c % 2 ^ 64)) a n)) (at + n)) (row-ext k _ _ b (a + n) (λ i l. ap m (omega arith)))
+    ∙ sets-join d at (λ c. m (c % 2 ^ 64)) a n k
+
+pub length-span : (m : ℕ → ℕ) (a n : ℕ) → length (span m a n) ≡ n
+unfolding span
+length-span m a n = length-row _ a n
 
 -- ---- what a reader answers and leaves
 

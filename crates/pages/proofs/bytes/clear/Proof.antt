@@ -1,57 +1,20 @@
-use Prim.Native.Nat.{_≤_, _-_}
-use mathlib.Core.Path.{_≡_, refl}
-use native.Mathlib.Omega.{arith}
-use lib.ListN.{length, length-set}
-use lib.Seq.{sets}
-use Rattle.pages.specs.Bytes.{row, zeros}
-use Rattle.pages.proofs.Laws.Runs.{sets-next}
+use mathlib.Core.Path.{_∙_}
+use Rattle.pages.proofs.Laws.Runs.{length-row}
+use Rattle.pages.proofs.Laws.Places.{test-in, put-in, put-not}
+use borrow.Author.Needs.{needs}
 use Rattle.pages.proofs.bytes.clear.Statement.{statement}
 use Rattle.pages.proofs.bytes.clear.Tie as tie
 
-abbrev Inv-loop : tie.InvT-loop
-Inv-loop s₀ at count i₀ s i = (i ≤ count) × (length s ≡ length s₀) × (s ≡ sets s₀ at (zeros i))
+clear-requires : tie.Need-clear-requires
+clear-requires c κs = test-in (c .before .before .holds .ensures) (c .before .if1 .taken)
 
-abbrev μ-loop : tie.MeasureT-loop
-μ-loop s₀ at count i₀ s i = count - i
-
-loop-holds : tie.Need-loop-holds Inv-loop μ-loop
-unfolding row
-loop-holds c = (omega arith, refl, refl)
-
-add-s : tie.Need-add-s Inv-loop μ-loop
-add-s c = omega arith
-
-slice-write-s : tie.Need-slice-write-s Inv-loop μ-loop
-slice-write-s c = omega arith
-
-add-i : tie.Need-add-i Inv-loop μ-loop
-add-i c = omega arith
-
-loop-less : tie.Need-loop-less Inv-loop μ-loop
-loop-less c = omega arith
-
-loop-again : tie.Need-loop-again Inv-loop μ-loop
-loop-again c = (omega arith, simp length-set (omega arith), sets-next _ _ _ _ _ _ _ (c .before .loop .inv .2) refl)
-
-same-length : tie.Need-same-length Inv-loop μ-loop
-same-length c = c .before .loop .inv .1
-
-returns : tie.Need-returns Inv-loop μ-loop
+returns : tie.Need-returns
 returns c =
-    let e : c .before .loop .i ≡ c .before .before .args .count = omega arith in
-    rw e at (c .before .loop .inv .2)
+    let t = c .before .before .before .before in
+    c .before .before .clear .ensures ∙ put-in _ _ _ _ (length-row _ _ _) (t .before .holds .ensures) (t .if1 .taken)
+
+returns-2 : tie.Need-returns-2
+returns-2 c = put-not _ _ _ _ (length-row _ _ _) (c .before .holds .ensures) (c .if1 .left)
 
 pub clear-spec : {M : Type 1} → statement M
-clear-spec =
-    tie.close
-    (tie.spec
-    Inv-loop
-    μ-loop
-    loop-holds
-    add-s
-    slice-write-s
-    add-i
-    loop-less
-    loop-again
-    same-length
-    returns)
+clear-spec = tie.close (tie.spec (λ c κs. search needs) clear-requires (λ c. search needs) returns returns-2)

@@ -1,38 +1,20 @@
-use native.Mathlib.Omega.{arith}
-use native.Mathlib.Numerals.{towards-suc}
-use lib.ListN.{length-set}
-use Rattle.pages.specs.Bytes.{bytesOf}
+use mathlib.Core.Path.{_∙_}
+use Rattle.pages.proofs.Laws.Numbers.{length-bytes}
+use Rattle.pages.proofs.Laws.Places.{test-in, put-in, put-not}
 use borrow.Author.Needs.{needs}
 use Rattle.pages.proofs.bytes.put_word.Statement.{statement}
 use Rattle.pages.proofs.bytes.put_word.Tie as tie
 
-slice-write-s-2 : tie.Need-slice-write-s-2
-slice-write-s-2 c = simp length-set (omega arith)
-
-slice-write-s-3 : tie.Need-slice-write-s-3
-slice-write-s-3 c = simp length-set (omega arith)
-
-slice-write-s-4 : tie.Need-slice-write-s-4
-slice-write-s-4 c = simp length-set (omega arith)
+put-word-requires : tie.Need-put-word-requires
+put-word-requires c κs = test-in (c .before .before .holds .ensures) (c .before .if1 .taken)
 
 returns : tie.Need-returns
-unfolding bytesOf
-returns c = simp towards-suc
+returns c =
+    let t = c .before .before .before .before in
+    c .before .before .put-word .ensures ∙ put-in _ _ _ 4 (length-bytes 4 _) (t .before .holds .ensures) (t .if1 .taken)
+
+returns-2 : tie.Need-returns-2
+returns-2 c = put-not _ _ _ 4 (length-bytes 4 _) (c .before .holds .ensures) (c .if1 .left)
 
 pub put-word-spec : {M : Type 1} → statement M
-put-word-spec =
-    tie.close
-    (tie.spec
-    (λ c. search needs)
-    (λ c. search needs)
-    (λ c. search needs)
-    (λ c. search needs)
-    slice-write-s-2
-    (λ c. search needs)
-    (λ c. search needs)
-    slice-write-s-3
-    (λ c. search needs)
-    (λ c. search needs)
-    slice-write-s-4
-    (λ c. search needs)
-    returns)
+put-word-spec = tie.close (tie.spec (λ c κs. search needs) put-word-requires (λ c. search needs) returns returns-2)

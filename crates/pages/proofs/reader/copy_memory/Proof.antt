@@ -11,11 +11,11 @@ use Rattle.pages.proofs.reader.copy_memory.Statement.{statement}
 use Rattle.pages.proofs.reader.copy_memory.Tie as tie
 
 abbrev Inv-loop : tie.InvT-loop
-Inv-loop pages used address buf₀ count done₀ at₀ buf done at =
-    (done ≤ count) × (length buf ≡ length buf₀) × (at ≡ (address + done) % 2 ^ 64) × (buf ≡ sets buf₀ 0 (span (byteAt pages used) address done))
+Inv-loop pages used address buf₀ at count done₀ next₀ buf done next =
+    (done ≤ count) × (length buf ≡ length buf₀) × (next ≡ (address + done) % 2 ^ 64) × (buf ≡ sets buf₀ at (span (byteAt pages used) address done))
 
 abbrev μ-loop : tie.MeasureT-loop
-μ-loop pages used address buf₀ count done₀ at₀ buf done at = count - done
+μ-loop pages used address buf₀ at count done₀ next₀ buf done next = count - done
 
 loop-holds : tie.Need-loop-holds Inv-loop μ-loop
 unfolding span row
@@ -26,6 +26,9 @@ sub-in-page c = omega arith
 
 in-page-requires : tie.Need-in-page-requires Inv-loop μ-loop
 in-page-requires c κs = tt
+
+add-copy-in-page : tie.Need-add-copy-in-page Inv-loop μ-loop
+add-copy-in-page c = omega arith
 
 copy-in-page-requires : tie.Need-copy-in-page-requires Inv-loop μ-loop
 copy-in-page-requires c κs = omega arith
@@ -43,7 +46,7 @@ loop-again : tie.Need-loop-again Inv-loop μ-loop
 loop-again c =
     let l = c .before .before .before .before .before .before .before .loop in
     let b = c .before .before .before .copy-in-page .ensures in
-    (omega arith, ap length b ∙ simp length-sets (l .inv .1), c .wrapping-add-u64 .ensures ∙ omega arith, b ∙ rw (l .inv .3) (span-join _ _ _ _ _ _ (l .inv .2)))
+    (omega arith, ap length b ∙ simp length-sets (l .inv .1), c .wrapping-add-u64 .ensures ∙ omega arith, b ∙ rw (l .inv .3) (span-join _ _ _ _ _ _ _ (l .inv .2)))
 
 same-length : tie.Need-same-length Inv-loop μ-loop
 same-length c = c .before .loop .inv .1
@@ -62,6 +65,7 @@ copy-memory-spec =
     loop-holds
     sub-in-page
     in-page-requires
+    add-copy-in-page
     copy-in-page-requires
     wrapping-add-u64-requires
     add-done
