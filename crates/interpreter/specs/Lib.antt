@@ -7,3 +7,15 @@ pub mod HiLo
 pub mod Loads
 pub mod Stores
 pub mod Kernel
+pub mod Machine
+pub mod Calls
+pub mod Utf8
+pub mod Hints
+pub mod Inputs
+pub mod Plan
+pub mod Step
+pub mod Parts
+pub mod Layout
+pub mod Records
+pub mod Recording
+pub mod Ideal

@@ -1,4 +1,4 @@
-// Layer 2: the machine. So far its kernel: decoding, and what each instruction does.
+// Layer 2: the machine.
 
 // What an instruction reads, and what it does.
 pub mod effect;
@@ -20,5 +20,20 @@ mod stores;
 // handle_branch and handle_jump.
 mod branches;
 
-// The kernel (cpu.rs).
+// The kernel (cpu.rs): an instruction as a pure function.
 pub mod cpu;
+
+// What the machine holds, and a state's bytes.
+pub mod layout;
+pub mod state;
+
+// System calls (linux.rs), and what they work on.
+pub mod hint;
+pub mod input;
+pub mod linux;
+mod syscall;
+pub mod utf8;
+
+// One step, and its record.
+pub mod record;
+pub mod step;

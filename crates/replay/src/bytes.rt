@@ -24,15 +24,14 @@ pub fn number(s: &[u8], at: usize, count: usize) -> u64 {
     v
 }
 
-pub fn fill(s: &mut [u8], b: u8) {
-    for k in 0..s.len() {
-        s[k] = b;
+pub fn same(a: &[u8], b: &[u8]) -> bool {
+    if a.len() != b.len() {
+        return false;
     }
-}
-
-// The first bytes of one buffer to another that may be longer or shorter.
-pub fn copy(from: &[u8], to: &mut [u8]) {
-    for k in 0..to.len() {
-        to[k] = byte(from, k);
+    for k in 0..a.len() {
+        if byte(a, k) != byte(b, k) {
+            return false;
+        }
     }
+    true
 }

@@ -1,10 +1,9 @@
-// Replays the fixed lists of vectors that the unchanged Rust (rules 0) and QEMU (rules 1) made, and says of each list
-// how many vectors differ. compare/README.md says how the lists are made and what their form is.
+// Replays the fixed lists of whole steps that the unchanged Rust (rules 0) and QEMU (rules 1) made, and says of each
+// list how many steps differ. compare/README.md says how the lists are made and what their form is.
 mod bytes;
-mod kernel;
+mod machine;
 mod vector;
 
-use crate::kernel::Verdict;
 use crate::vector::Front;
 use libc::STDOUT_FILENO;
 
@@ -19,76 +18,70 @@ fn line(name: &[u8], n: u64, what: &[u8]) {
     text(what);
 }
 
-// How a list went.
+// How a list went: the steps that are as the judge says, by the kind of their answer, and the others.
 struct Tally {
-    replayed: u64,
-    passed: u64,
+    stepped: u64,
+    wrote: u64,
+    hint: u64,
+    exited: u64,
+    refused: u64,
     wrong: u64,
 }
 
+fn more(n: u64) -> u64 {
+    std::num::wrapping_add_u64(n, 1)
+}
+
+fn part(n: u64, what: &[u8]) {
+    io::print_decimal(STDOUT_FILENO, n);
+    text(what);
+}
+
 impl Tally {
-    fn with(self, name: &[u8], ordinal: u64, v: Verdict) -> Tally {
+    fn right(self, kind: u64) -> Tally {
         let mut t = self;
-        match v {
-            Verdict::Same => {
-                t.replayed = std::num::wrapping_add_u64(t.replayed, 1);
+        match kind {
+            Front::STEPPED => {
+                t.stepped = more(t.stepped);
             }
-            Verdict::Passed => {
-                t.passed = std::num::wrapping_add_u64(t.passed, 1);
+            Front::WROTE => {
+                t.wrote = more(t.wrote);
             }
-            Verdict::Differs => {
-                line(name, ordinal, b" differs\n");
-                t.wrong = std::num::wrapping_add_u64(t.wrong, 1);
+            Front::HINT => {
+                t.hint = more(t.hint);
+            }
+            Front::EXITED => {
+                t.exited = more(t.exited);
+            }
+            _ => {
+                t.refused = more(t.refused);
             }
         }
         t
     }
 
-    fn say(self, name: &[u8]) {
-        line(name, self.replayed, b" instructions as the judge says, ");
-        io::print_decimal(STDOUT_FILENO, self.passed);
-        text(b" calls and exited states passed over, ");
-        io::print_decimal(STDOUT_FILENO, self.wrong);
-        text(b" differ\n");
+    fn wrong(self, name: &[u8], ordinal: u64) -> Tally {
+        let mut t = self;
+        line(name, ordinal, b" differs\n");
+        t.wrong = more(t.wrong);
+        t
     }
-}
 
-// Lays the six lists of what was before out, of which hint, output, index and data are no matter of the kernel's.
-fn lay_before(v: &[u8], before: &mut [u8], pages: &mut [u8]) -> usize {
-    let mut other = [0u8; 8192];
-    let at = vector::patch(v, Front::SIZE, before);
-    let at = vector::patch(v, at, pages);
-    let at = vector::patch(v, at, &mut other);
-    let at = vector::patch(v, at, &mut other);
-    let at = vector::patch(v, at, &mut other);
-    vector::patch(v, at, &mut other)
-}
+    fn all(self) -> u64 {
+        let answered = std::num::wrapping_add_u64(self.stepped, self.refused);
+        let handed = std::num::wrapping_add_u64(self.wrote, self.hint);
+        std::num::wrapping_add_u64(std::num::wrapping_add_u64(answered, handed), self.exited)
+    }
 
-// The state and the pages after the step.
-fn lay_after(v: &[u8], at: usize, after: &mut [u8], pages: &mut [u8]) {
-    let at = vector::patch(v, at, after);
-    vector::patch(v, at, pages);
-}
-
-// One vector: its buffers are laid out, and its instruction goes through the kernel.
-fn one(v: &[u8], front: Front, pages: &mut [u8], pages_after: &mut [u8]) -> Verdict {
-    let mut before = [0u8; 360];
-    let mut after = [0u8; 360];
-    bytes::fill(pages, front.fill);
-    let at = lay_before(v, &mut before, pages);
-    bytes::copy(&before, &mut after);
-    bytes::copy(pages, pages_after);
-    lay_after(v, at, &mut after, pages_after);
-    kernel::replay(
-        &before,
-        &after,
-        pages,
-        front.used,
-        pages_after,
-        front.used_after,
-        front.kind,
-        front.first,
-    )
+    fn say(self, name: &[u8]) {
+        line(name, self.all(), b" steps as the judge says (Stepped ");
+        part(self.stepped, b", Wrote ");
+        part(self.wrote, b", Hint ");
+        part(self.hint, b", Exited ");
+        part(self.exited, b", Refused ");
+        part(self.refused, b"), ");
+        part(self.wrong, b" differ\n");
+    }
 }
 
 // Reads the next vector behind its length to the front of v, and answers how long it is, or 0 where the list is cut
@@ -113,35 +106,33 @@ fn next(fd: i32, v: &mut [u8]) -> usize {
     rest
 }
 
-fn turn(fd: i32, name: &[u8], v: &mut [u8], pages: &mut [u8], after: &mut [u8], t: Tally) -> Tally {
+fn turn(fd: i32, name: &[u8], v: &mut [u8], t: Tally) -> Tally {
     let end = next(fd, v);
     let front = Front::read(v);
-    let size = front.pages;
     if end == 0 {
         text(b"the list is cut short\n");
-        return t.with(name, front.ordinal, Verdict::Differs);
+        return t.wrong(name, front.ordinal);
     }
-    if pages.len() < size {
-        return t.with(name, front.ordinal, Verdict::Differs);
+    if machine::replay(v, front) {
+        return t.right(front.kind);
     }
-    if after.len() < size {
-        return t.with(name, front.ordinal, Verdict::Differs);
-    }
-    let verdict = one(v, front, &mut pages[..size], &mut after[..size]);
-    t.with(name, front.ordinal, verdict)
+    t.wrong(name, front.ordinal)
 }
 
-fn replay(fd: i32, name: &[u8], v: &mut [u8], pages: &mut [u8], after: &mut [u8]) {
+fn replay(fd: i32, name: &[u8], v: &mut [u8]) {
     let mut head = [0u8; 12];
     io::read_full(fd, &mut head);
     let count = bytes::number(&head, 8, 4);
     let mut tally = Tally {
-        replayed: 0,
-        passed: 0,
+        stepped: 0,
+        wrote: 0,
+        hint: 0,
+        exited: 0,
+        refused: 0,
         wrong: 0,
     };
     for _ in 0..count {
-        tally = turn(fd, name, v, pages, after, tally);
+        tally = turn(fd, name, v, tally);
     }
     tally.say(name);
 }
@@ -153,9 +144,7 @@ fn list(path: &[u8], name: &[u8]) {
         return;
     }
     let mut v = [0u8; 8192];
-    let mut pages = [0u8; 20519];
-    let mut after = [0u8; 20519];
-    replay(fd, name, &mut v, &mut pages, &mut after);
+    replay(fd, name, &mut v);
     libc::close(fd);
 }
 

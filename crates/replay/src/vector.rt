@@ -23,6 +23,17 @@ fn length(v: &[u8], at: usize) -> usize {
 }
 
 impl Front {
+    // Kinds of answers.
+    pub const STEPPED: u64 = 0;
+
+    pub const WROTE: u64 = 1;
+
+    pub const HINT: u64 = 2;
+
+    pub const EXITED: u64 = 3;
+
+    pub const REFUSED: u64 = 4;
+
     // The patch lists stand behind it.
     pub const SIZE: usize = 30;
 

@@ -6,10 +6,10 @@ use Rattle.replay.proofs.replay.Statement.{statement}
 use Rattle.replay.proofs.replay.Tie as tie
 
 abbrev Inv-loop : tie.InvT-loop
-Inv-loop fd name v₀ pages₀ after₀ count tally₀ counter₀ v pages after tally counter = (length v ≡ length v₀) × (length pages ≡ length pages₀) × (length after ≡ length after₀)
+Inv-loop fd name v₀ count tally₀ counter₀ v tally counter = (length v ≡ length v₀)
 
 abbrev μ-loop : tie.MeasureT-loop
-μ-loop fd name v₀ pages₀ after₀ count tally₀ counter₀ v pages after tally counter = count - counter
+μ-loop fd name v₀ count tally₀ counter₀ v tally counter = count - counter
 
 pub replay-spec : {M : Type 1} → statement M
 replay-spec =
@@ -27,7 +27,5 @@ replay-spec =
     (λ c. search needs)
     (λ c. search needs)
     (λ c κs. search needs)
-    (λ c. search needs)
-    (λ c. search needs)
     (λ c. search needs)
     (λ c. search needs))
