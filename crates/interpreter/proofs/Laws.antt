@@ -26,3 +26,4 @@ pub mod Steps
 pub mod Kept
 pub mod Refine
 pub mod Recorder
+pub mod Runs

@@ -19,3 +19,4 @@ pub mod Layout
 pub mod Records
 pub mod Recording
 pub mod Ideal
+pub mod Runs

@@ -34,6 +34,7 @@ pub mod linux;
 mod syscall;
 pub mod utf8;
 
-// One step, and its record.
+// One step, its record, and the step repeated.
 pub mod record;
+pub mod run;
 pub mod step;
