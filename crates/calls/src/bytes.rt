@@ -1,4 +1,5 @@
 // Bytes and numbers at places that are tested: 0 past the end, and a store past the end is none.
+use pages::bytes;
 
 pub fn byte(s: &[u8], at: usize) -> u8 {
     if at < s.len() { s[at] } else { 0 }
@@ -30,12 +31,7 @@ pub fn number(s: &[u8], at: usize, count: usize) -> u64 {
 
 // A number to the eight bytes at a place.
 pub fn put_number(s: &mut [u8], at: usize, v: u64) {
-    let mut rest = v;
-    let last = plus(at, 7);
-    for k in 0..8 {
-        set(s, std::num::wrapping_sub_usize(last, k), (rest % 256) as u8);
-        rest = rest / 256;
-    }
+    bytes::put_doubleword(s, at, v);
 }
 
 pub fn fill(s: &mut [u8], from: usize, to: usize, b: u8) {

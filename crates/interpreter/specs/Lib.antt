@@ -14,9 +14,9 @@ pub mod Hints
 pub mod Inputs
 pub mod Plan
 pub mod Step
-pub mod Parts
 pub mod Layout
 pub mod Records
 pub mod Recording
 pub mod Ideal
 pub mod Runs
+pub mod Parts

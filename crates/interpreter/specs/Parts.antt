@@ -1,17 +1,63 @@
--- What the private parts of a step answer and leave. No public promise rests on these.
+-- What the code's private parts answer and leave. No public promise rests on these.
 use Prim.Native.Nat.{ℕ, _+_}
-use mathlib.Core.Bool.{cond}
+use mathlib.Core.Bool.{true, false, cond}
 use mathlib.Core.List.{List, _++_}
 use lib.Dec.{leb, ltb}
 use lib.ListN.{length}
 use lib.Seq.{sets}
 use Rattle.pages.specs.Bytes.{cell, row}
 use Rattle.pages.specs.Memory.{Memory, span}
+use Rattle.interpreter.specs.declared.effect.Refusal.{Refusal}
 use Rattle.interpreter.specs.declared.effect.Refusal.the-variants.{NoRoom}
+use Rattle.interpreter.specs.declared.effect.Touch.{Touch}
+use Rattle.interpreter.specs.declared.state.Cpu.{Cpu}
+use Rattle.interpreter.specs.declared.step.Answer.{Answer}
+use Rattle.interpreter.specs.declared.step.Answer.the-variants.{Refused}
+use Rattle.interpreter.specs.declared.step.Next.{Next}
+use Rattle.interpreter.specs.declared.linux.Call.{Call}
+use Rattle.interpreter.specs.declared.record.Seen.{Seen}
+use Rattle.interpreter.specs.declared.run.Reached.{Reached}
 use Rattle.interpreter.specs.declared.hint.Heard.{Heard}
 use Rattle.interpreter.specs.declared.hint.Heard.the-variants.{Keep, HandOut, Refuse}
-use Rattle.interpreter.specs.Machine.{roomOf}
+use Rattle.interpreter.specs.Machine.{Machine, machine, roomOf}
 use Rattle.interpreter.specs.Hints.{textOf, heard}
+use Rattle.interpreter.specs.Plan.{eightAt}
+use Rattle.interpreter.specs.Step.{Left, left}
+use Rattle.interpreter.specs.Records.{recordOf}
+use Rattle.interpreter.specs.Recording.{callWide, wide, callTouch, touched, memoryOf, stateIn, Recorded, recorded}
+use Rattle.interpreter.specs.Runs.{Ran, ran}
+
+-- ---- the step on lent registers
+
+-- what it leaves, with the lent bytes as they are then
+abbrev pub after : Next → List ℕ → List ℕ → List ℕ → List ℕ → List ℕ → Left
+after n r k p h o = left (n .answer) (machine (n .cpu) r k (n .used) p h o) (n .counts)
+
+-- what it answers where the step is not refused, and where it is
+abbrev pub doing : Answer → Cpu → ℕ → Next
+doing a c u = record { answer = a; cpu = c; used = u; counts = true }
+
+abbrev pub refusing : Cpu → ℕ → Refusal → Next
+refusing c u n = record { answer = Refused n; cpu = c; used = u; counts = false }
+
+-- what its repetition leaves
+abbrev pub reached : Reached → List ℕ → List ℕ → List ℕ → List ℕ → List ℕ → Ran
+reached e r k p h o = ran (e .answer) (machine (e .cpu) r k (e .used) p h o) (e .count)
+
+-- ---- the recording step
+
+-- whether a call, and a step, is wide and what it touches
+abbrev pub seenCall : ℕ → Call → Seen
+seenCall a1 g = record { wide = callWide g; touch = callTouch a1 g }
+
+abbrev pub seen : Cpu → List ℕ → ℕ → Seen
+seen c r w = record { wide = wide c r w; touch = touched c r w }
+
+-- the record of a step that isn't wide, whose instruction and touch are these
+unfoldable pub recordingAs : Machine → List ℕ → ℕ → Touch → Left → Recorded
+recordingAs m b w t l = recorded l (cond (l .counts) (recordOf (stateIn m) (stateIn (l .machine)) w t (eightAt (memoryOf m) t) (eightAt (memoryOf (l .machine)) t)) b)
+
+-- ---- hints
 
 -- a write to the hint descriptor: what was heard, and the two buffers then
 pub record Listened : Type 0 where

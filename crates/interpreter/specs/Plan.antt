@@ -80,9 +80,6 @@ changing v t e = record { answer = Stepped; cpu = changed (v .cpu) e; regs = set
 
 -- ---- system calls: arguments
 
-abbrev pub a0 : View → ℕ
-a0 v = reg (v .regs) 4
-
 abbrev pub a1 : View → ℕ
 a1 v = reg (v .regs) 5
 

@@ -14,7 +14,6 @@ use Rattle.interpreter.specs.declared.effect.Touch.the-variants.{Nothing
 use Rattle.interpreter.specs.declared.effect.Refusal.the-variants.{BadMachine}
 use Rattle.interpreter.specs.declared.state.Cpu.{Cpu}
 use Rattle.interpreter.specs.declared.state.State.{State}
-use Rattle.interpreter.specs.declared.record.Seen.{Seen}
 use Rattle.interpreter.specs.declared.linux.Call.{Call}
 use Rattle.interpreter.specs.declared.linux.Call.the-variants.{Answer as Reply, Heap, Exit, Key, Input, Write, Hint}
 use Rattle.interpreter.specs.Machine.{Machine, reg, stateOf}
@@ -71,13 +70,6 @@ callTouch a1 Hint = Nothing
 unfoldable pub touched : Cpu → List ℕ → ℕ → Touch
 touched c r w = cond (calls (decode w)) (callTouch (reg r 5) (callIn c r)) (touchOf r w)
 
--- the two together
-abbrev pub seenCall : ℕ → Call → Seen
-seenCall a1 g = record { wide = callWide g; touch = callTouch a1 g }
-
-abbrev pub seen : Cpu → List ℕ → ℕ → Seen
-seen c r w = record { wide = wide c r w; touch = touched c r w }
-
 -- ---- the record of a step from one machine to another
 
 abbrev pub memoryOf : Machine → Memory
@@ -105,10 +97,6 @@ pub record Recorded : Type 0 where
 
 abbrev pub recorded : Left → List ℕ → Recorded
 recorded l b = record { left = l; buf = b }
-
--- the record of a step that isn't wide, whose instruction and touch are these
-unfoldable pub recordingAs : Machine → List ℕ → ℕ → Touch → Left → Recorded
-recordingAs m b w t l = recorded l (cond (l .counts) (recordOf (stateIn m) (stateIn (l .machine)) w t (eightAt (memoryOf m) t) (eightAt (memoryOf (l .machine)) t)) b)
 
 -- every unrefused step from an unexited state that isn't wide is recorded; otherwise the buffer stays
 unfoldable pub recording : Machine → List ℕ → Left → Recorded

@@ -5,9 +5,8 @@ use mathlib.Core.Bool.{Bool, true, false, _&&_, not, cond}
 use mathlib.Core.List.{List}
 use Rattle.interpreter.specs.declared.step.Answer.{Answer}
 use Rattle.interpreter.specs.declared.step.Answer.the-variants.{Stepped, Wrote, Hint, Exited, Refused}
-use Rattle.interpreter.specs.declared.run.Reached.{Reached}
 use Rattle.interpreter.specs.declared.run.Stopped.{Stopped}
-use Rattle.interpreter.specs.Machine.{Machine, machine}
+use Rattle.interpreter.specs.Machine.{Machine}
 use Rattle.interpreter.specs.Step.{Left, stepDef, machineOf}
 
 -- what a run leaves: the last call's answer, the machine, and the count
@@ -54,9 +53,6 @@ runDef x d zero m = ran Stepped m 0
 runDef x d (suc n) m = onto (stepDef x d m) (runDef x d n (stepDef x d m .machine))
 
 -- ---- the same of what the code answers, with the lent bytes as they are then
-
-abbrev pub reached : Reached → List ℕ → List ℕ → List ℕ → List ℕ → List ℕ → Ran
-reached e r k p h o = ran (e .answer) (machine (e .cpu) r k (e .used) p h o) (e .count)
 
 abbrev pub stopped : Stopped → List ℕ → List ℕ → List ℕ → Ran
 stopped e p h o = ran (e .answer) (machineOf (e .state) (e .used) p h o) (e .count)

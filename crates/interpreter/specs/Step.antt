@@ -16,7 +16,6 @@ use Rattle.interpreter.specs.declared.effect.Refusal.the-variants.{BadMa
 use Rattle.interpreter.specs.declared.state.Cpu.{Cpu}
 use Rattle.interpreter.specs.declared.step.Answer.{Answer}
 use Rattle.interpreter.specs.declared.step.Answer.the-variants.{Stepped, Wrote, Hint, Exited, Refused}
-use Rattle.interpreter.specs.declared.step.Next.{Next}
 use Rattle.interpreter.specs.declared.step.Values.{Values}
 use Rattle.interpreter.specs.declared.state.State.{State}
 use Rattle.interpreter.specs.declared.step.Finished.{Finished}
@@ -44,17 +43,6 @@ pub record Left : Type 0 where
 abbrev pub left : Answer → Machine → Bool → Left
 left a m b = record { answer = a; machine = m; counts = b }
 
--- the same of what the code's inner step answers, with the lent bytes as they are then
-abbrev pub after : Next → List ℕ → List ℕ → List ℕ → List ℕ → List ℕ → Left
-after n r k p h o = left (n .answer) (machine (n .cpu) r k (n .used) p h o) (n .counts)
-
--- what it answers where the step is not refused, and where it is
-abbrev pub doing : Answer → Cpu → ℕ → Next
-doing a c u = record { answer = a; cpu = c; used = u; counts = true }
-
-abbrev pub refusing : Cpu → ℕ → Refusal → Next
-refusing c u n = record { answer = Refused n; cpu = c; used = u; counts = false }
-
 abbrev pub withCpu : Machine → Cpu → Machine
 withCpu m c = machine c (m .regs) (m .key) (m .used) (m .pages) (m .hint) (m .output)
 
@@ -66,8 +54,8 @@ refused m n = left (Refused n) m false
 unfoldable pub settled : Machine → Deed → ℕ → List ℕ → Left
 settled m d u p = left (d .answer) (machine (d .cpu) (d .regs) (d .key) u p (sets (m .hint) (m .cpu .hint) (d .appended)) (sets (m .output) 0 (d .written))) true
 
--- a store that finds no record left is refused, with the whole deed. The other answers of a store cannot come:
--- the address is a doubleword's, and the used records are there
+-- a store that finds no record left is refused, with the whole deed. The other answers of a store cannot come (`put-full` in
+-- proofs/Laws/Kept): the address is a doubleword's, and the used records are there
 abbrev pub landed : Machine → Deed → List ℕ → Stored → Left
 landed m d p (Used u) = settled m d u p
 landed m d p Full = refused m MemoryFull

@@ -1,6 +1,6 @@
 // Results to hi and lo.
 ghost use mathlib.Core.Path.{_≡_};
-ghost use Prim.Native.Nat.{_+_, _<_, _≤_, _%_, _^_};
+ghost use Prim.Native.Nat.{_<_, _^_};
 ghost use Rattle.interpreter.specs.Words.{word, magnitude, signed, negative};
 ghost use Rattle.interpreter.specs.Isa.{DIV, DIVU, DDIV, DDIVU};
 ghost use Rattle.interpreter.specs.HiLo.{words, negated, mult, multu, dmult, dmultu, div, divu, ddiv, ddivu, overflows, toHiLo, hiLo};

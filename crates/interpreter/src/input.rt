@@ -111,23 +111,9 @@ pub(crate) fn moving(n: u64, offset: u64, a1: u64, a2: u64) -> u64
 fn spread(x: u64) -> [u8; 8]
     ensures { λ r. ⌜ r ≡ bytesOf 8 x ⌝ }
 {
-    let v6 = x / 256;
-    let v5 = v6 / 256;
-    let v4 = v5 / 256;
-    let v3 = v4 / 256;
-    let v2 = v3 / 256;
-    let v1 = v2 / 256;
-    let v0 = v1 / 256;
-    [
-        (v0 % 256) as u8,
-        (v1 % 256) as u8,
-        (v2 % 256) as u8,
-        (v3 % 256) as u8,
-        (v4 % 256) as u8,
-        (v5 % 256) as u8,
-        (v6 % 256) as u8,
-        (x % 256) as u8,
-    ]
+    let mut b = [0u8; 8];
+    bytes::put_doubleword(&mut b, 0, x);
+    b
 }
 
 // One byte of what the program reads: the preimage's length, then the preimage.

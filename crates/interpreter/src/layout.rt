@@ -6,6 +6,7 @@ ghost use lib.Seq.{sets};
 ghost use Rattle.pages.specs.Bytes.{cell, row};
 ghost use Rattle.interpreter.specs.Machine.{stateOf};
 ghost use Rattle.interpreter.specs.Layout.{flag, eights, numbersOf, lastOf, encode, numbers, decodeAt, formedAt, malformed, decodeDef};
+use crate::hint::Heard;
 use crate::state::Cpu;
 use crate::state::State;
 use pages::bytes;
@@ -46,9 +47,6 @@ impl Layout {
 
     // The last of the spare bytes.
     pub const LAST: usize = 359;
-
-    // The largest hint length.
-    pub const HINT_ROOM: u64 = 65536;
 
     // How many spare bytes end a state.
     pub const SPARES: usize = 5;
@@ -193,7 +191,7 @@ pub(crate) fn formed_at(b: &[u8], k: usize) -> bool
     if b[k + Layout::RULES] > Cpu::RULES {
         return false;
     }
-    bytes::doubleword_at(b, k + Layout::HINT) <= Layout::HINT_ROOM
+    bytes::doubleword_at(b, k + Layout::HINT) <= Heard::ROOM
 }
 
 fn malformed() -> Decoded

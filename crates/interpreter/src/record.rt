@@ -7,7 +7,8 @@ ghost use Rattle.interpreter.specs.Records.{touchBytes, restOf, recordOf
 ghost use Rattle.interpreter.specs.Machine.{reg};
 ghost use Rattle.interpreter.specs.Plan.{callIn};
 ghost use Rattle.interpreter.specs.Step.{machineOf, finished, stepDef};
-ghost use Rattle.interpreter.specs.Recording.{seenCall, seen, recorded, recordingAs, recordedDef};
+ghost use Rattle.interpreter.specs.Recording.{recorded, recordedDef};
+ghost use Rattle.interpreter.specs.Parts.{seenCall, seen, recordingAs};
 ghost use Rattle.interpreter.specs.declared.effect.Touch.the-variants.{Eight};
 use crate::cpu;
 use crate::effect::Effect;

@@ -1,13 +1,14 @@
 // One step (cpu.rs).
 ghost use mathlib.Core.Path.{_≡_};
 ghost use mathlib.Core.List.{List};
-ghost use Prim.Native.Nat.{ℕ, _-_, _*_, _/_, _%_, _<_, _≤_};
+ghost use Prim.Native.Nat.{ℕ, _*_, _/_, _%_, _<_, _≤_};
 ghost use Rattle.pages.specs.Bytes.{big};
 ghost use Rattle.pages.specs.Pages.{byteAt};
 ghost use Rattle.pages.specs.Calls.{stored};
 ghost use Rattle.interpreter.specs.Machine.{reg, setReg, roomOf, machine, bad};
 ghost use Rattle.interpreter.specs.Plan.{does, changing, storing, eightAt, insOf, touchOf, executing};
-ghost use Rattle.interpreter.specs.Step.{valuesOf, after, doing, refusing, refused, putting, working, advance, machineOf, finished, stepDef};
+ghost use Rattle.interpreter.specs.Step.{valuesOf, refused, putting, working, advance, machineOf, finished, stepDef};
+ghost use Rattle.interpreter.specs.Parts.{after, doing, refusing};
 ghost use Rattle.interpreter.specs.declared.effect.Refusal.the-variants.{BadMachine};
 ghost use Rattle.interpreter.specs.declared.effect.Touch.the-variants.{Eight};
 use crate::cpu;

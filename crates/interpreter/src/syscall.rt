@@ -1,12 +1,12 @@
 // The system calls carried out (linux.rs, handle_syscall): each takes only the buffers that it works on.
 ghost use mathlib.Core.Path.{_≡_};
 ghost use mathlib.Core.List.{List};
-ghost use Prim.Native.Nat.{ℕ, _+_, _-_, _%_, _<_, _≤_};
-ghost use Rattle.pages.specs.Calls.{stored};
+ghost use Prim.Native.Nat.{ℕ, _+_, _-_, _≤_};
 ghost use lib.ListN.{length};
 ghost use Rattle.interpreter.specs.Machine.{answering, roomOf, machine};
 ghost use Rattle.interpreter.specs.Plan.{does, calling, callIn, readFrom, readingIn};
-ghost use Rattle.interpreter.specs.Step.{after, doing, working};
+ghost use Rattle.interpreter.specs.Step.{working};
+ghost use Rattle.interpreter.specs.Parts.{after};
 ghost use Rattle.interpreter.specs.declared.linux.Call.the-variants.{Answer as Reply, Heap, Exit, Key, Input, Write, Hint as HintWrite};
 use crate::bits;
 use crate::effect::Refusal;

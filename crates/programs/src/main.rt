@@ -1,5 +1,6 @@
 // Small MIPS programs run to their end. What each must do is worked out by hand from document 01's rules, in the comments
 // beside it and in the file stdout.
+mod hint_room;
 mod machine;
 mod recording;
 mod say;
@@ -171,4 +172,5 @@ fn main() {
     continued(&mut pages, &mut output);
     refusals(&mut pages, &mut output);
     recording::all(&mut pages);
+    hint_room::all(&mut pages);
 }

@@ -4,11 +4,12 @@ use mathlib.Core.List.{[], _∷_}
 use Prim.Native.Nat.{ℕ, zero, suc, _+_, _*_, _/_, _%_, _^_, _≤_, _<_}
 use native.Mathlib.Nat.{add-zero, add-suc, mul-assoc, pow-suc, pow-succ', div-one, mod-eq-of-lt, div-div-eq-div-mul}
 use native.Mathlib.Omega.{arith}
-use lib.Arith.{digits-lt, digits-div, digits-mod, mod-mul}
+use lib.Arith.{digits-div, digits-mod, mod-mul}
 use lib.ListN.{List·getD-append}
 use lib.Seq.{getD-at}
 use Rattle.pages.specs.Bytes.{cell, big, bytesOf}
 use Rattle.pages.proofs.Laws.Numbers.{big-ext, length-bytes, bytes-bytes}
+use Rattle.pages.proofs.Laws.Places.{big-bound}
 use Rattle.interpreter.specs.Loads.{byte, wordAt}
 use Rattle.interpreter.proofs.Laws.Shifts.{bytes-pos, shr-lt}
 
@@ -22,9 +23,7 @@ big-split a (suc b) f o =
     rw (add-suc a b, big-split a b f o, e, pow-suc) (omega (arith, mul-assoc (big a f o) (256 ^ b) 256))
 
 pub big-lt : (n : ℕ) (f : ℕ → ℕ) (o : ℕ) → ((k : ℕ) → f k < 256) → big n f o < 256 ^ n
-unfolding big
-big-lt zero f o h = omega arith
-big-lt (suc n) f o h = rw pow-suc (digits-lt (big-lt n f o h) (h (o + n)))
+big-lt n f o h = big-bound n f o (λ k l. h (o + k))
 
 pub big-high : (a b : ℕ) (f : ℕ → ℕ) (o : ℕ) → ((k : ℕ) → f k < 256) → big (a + b) f o / 256 ^ b ≡ big a f o
 big-high a b f o h = rw (big-split a b f o) (digits-div (big a f o) (big-lt b f (o + a) h))

@@ -18,6 +18,7 @@ use Rattle.interpreter.specs.Layout.{eights, flag, numbersOf, lastOf, en
 use Rattle.interpreter.specs.declared.state.State.{State}
 use Rattle.interpreter.specs.declared.state.Cpu.{Cpu}
 use Rattle.interpreter.specs.declared.layout.Decoded.{Decoded}
+use Rattle.interpreter.proofs.Laws.Tests.{no-true}
 use Rattle.interpreter.proofs.Laws.Layout.{length-eights, length-encode, numbers-is, formed-is}
 
 -- ---- where the bytes of four runs stand
@@ -112,9 +113,6 @@ module _ (s : State) (f : Fits s) where
       (λ j h. part-key s j h ∙ cell-row (cell (s .key)) 0 32 j h)
       ∙ row-whole (s .key) 32 (f .key)
 
-  last-back : (j : ℕ) → cell (encode s) (352 + j) ≡ cell (lastOf (cpuOf s)) j
-  last-back = part-last s
-
   hint-back : eight (encode s) 312 ≡ s .hint
   unfolding numbersOf cpuOf
   hint-back = number 7 (omega arith) (omega (arith, f .hint))
@@ -133,9 +131,9 @@ module _ (s : State) (f : Fits s) where
         number 6 (omega arith) (f .offset),
         hint-back,
         key-back,
-        last-back 0,
-        last-back 1,
-        last-back 2,
+        part-last s 0,
+        part-last s 1,
+        part-last s 2,
         flag-back (s .exited),
       )
 
@@ -144,15 +142,15 @@ module _ (s : State) (f : Fits s) where
   formed-back =
       sym
       (formed-is (encode s) 0 {e = true} {s = true} {r = false} {h = false}
-      (rw (last-back 0) (le-leb _ _ (flag-small (s .exited))))
+      (rw (part-last s 0) (le-leb _ _ (flag-small (s .exited))))
       (eq-eqb _ _ (big-none 5 (cell (encode s)) 355 spare))
-      (rw (last-back 2) (le-ltb _ _ (f .rules)))
+      (rw (part-last s 2) (le-ltb _ _ (f .rules)))
       (rw hint-back (le-ltb _ _ (f .hint))))
     where
       spare : (k : ℕ) → k < 5 → cell (encode s) (355 + k) ≡ 0
       spare k h =
           let e : 355 + k ≡ 352 + (3 + k) = omega arith in
-          rw e (last-back (3 + k) ∙ cell-past (flag (s .exited) ∷ s .code ∷ s .rules ∷ []) (zeros 5) 3 k refl ∙ cell-row (λ _. 0) 0 5 k h)
+          rw e (part-last s (3 + k) ∙ cell-past (flag (s .exited) ∷ s .code ∷ s .rules ∷ []) (zeros 5) 3 k refl ∙ cell-row (λ _. 0) 0 5 k h)
 
   pub decode-encode : decodeDef (encode s) ≡ valid s
   unfolding decodeDef
@@ -162,12 +160,12 @@ module _ (s : State) (f : Fits s) where
 
 both : (a b : Bool) → (a && b) ≡ true → (a ≡ true) × (b ≡ true)
 both true b e = (refl, e)
-both false b e = let z : _≡_ {A = ℕ} 0 1 = cc in absurd (omega arith)
+both false b e = no-true (sym e)
 
 neither : (a b : Bool) → not (a || b) ≡ true → (a ≡ false) × (b ≡ false)
 neither false false e = (refl, refl)
-neither true b e = let z : _≡_ {A = ℕ} 0 1 = cc in absurd (omega arith)
-neither false true e = let z : _≡_ {A = ℕ} 0 1 = cc in absurd (omega arith)
+neither true b e = no-true (sym e)
+neither false true e = no-true (sym e)
 
 -- what a formed state's bytes say
 pub record Formed (b : List ℕ) (k : ℕ) : Type 0 where
@@ -187,7 +185,7 @@ formed-out b k e =
 valid-out : (t : Bool) (x s : State) → cond t (valid x) malformed ≡ valid s → (t ≡ true) × (x ≡ s)
 unfolding malformed
 valid-out true x s e = (refl, ap (λ (d : Decoded). d .state) e)
-valid-out false x s e = let z : false ≡ true = ap (λ (d : Decoded). d .formed) e in let y : _≡_ {A = ℕ} 0 1 = ap (λ (t : Bool). cond t 1 0) z in absurd (omega arith)
+valid-out false x s e = no-true (sym (ap (λ (d : Decoded). d .formed) e))
 
 pub record Out (b : List ℕ) (s : State) : Type 0 where
   pub long : length b ≡ 360

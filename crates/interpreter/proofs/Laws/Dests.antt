@@ -189,24 +189,25 @@ calls-refused i h g z = sym (kernel-calls i h g) ∙ ap isCall z
 
 -- ---- the touched address
 
-abbrev addressIn : Touch → ℕ
-addressIn Nothing = 0
-addressIn (Eight a) = a
+abbrev pub touchedAt : Touch → ℕ
+touchedAt Nothing = 0
+touchedAt (Eight a) = a
 
-touching-even : (n : Instruction) (a : ℕ) → a % 8 ≡ 0 → addressIn (touching n a) % 8 ≡ 0
+-- what holds of 0 and of an address holds of what an instruction there touches
+pub touching-all : (P : ℕ → Type 0) → P 0 → (n : Instruction) (a : ℕ) → P a → P (touchedAt (touching n a))
 unfolding touching
-touching-even (alu x) a h = refl
-touching-even (imm x) a h = refl
-touching-even (hilo x) a h = refl
-touching-even (load x) a h = h
-touching-even (store x) a h = h
-touching-even (conditional x) a h = h
-touching-even (branch x) a h = refl
-touching-even (jump x) a h = refl
-touching-even (other x) a h = refl
-touching-even reserved a h = refl
-touching-even reservedBranch a h = refl
+touching-all P z (alu x) a h = z
+touching-all P z (imm x) a h = z
+touching-all P z (hilo x) a h = z
+touching-all P z (load x) a h = h
+touching-all P z (store x) a h = h
+touching-all P z (conditional x) a h = h
+touching-all P z (branch x) a h = z
+touching-all P z (jump x) a h = z
+touching-all P z (other x) a h = z
+touching-all P z reserved a h = z
+touching-all P z reservedBranch a h = z
 
 pub touch-even : (w b a : ℕ) → touchDef w b ≡ Eight a → a % 8 ≡ 0
 unfolding touchDef
-touch-even w b a e = let q : a ≡ addressIn (touchDef w b) = ap addressIn (sym e) in rw q (touching-even (decode w) (addressOf w b / 8 * 8) (omega arith))
+touch-even w b a e = let q : a ≡ touchedAt (touchDef w b) = ap touchedAt (sym e) in rw q (touching-all (λ k. k % 8 ≡ 0) refl (decode w) (addressOf w b / 8 * 8) (omega arith))

@@ -13,6 +13,7 @@ use borrow.Author.Tests.{lt-ltb, le-ltb, leb-true, ltb-false}
 use Rattle.pages.specs.Bytes.{cell, row}
 use Rattle.pages.specs.Memory.{Memory, span}
 use Rattle.pages.proofs.Laws.Runs.{length-row, cell-row, sets-below, sets-among}
+use Rattle.pages.proofs.Laws.Loads.{length-span}
 use Rattle.interpreter.specs.declared.effect.Refusal.{Refusal}
 use Rattle.interpreter.specs.declared.effect.Refusal.the-variants.{NoRoom, HintShort, HintText}
 use Rattle.interpreter.specs.Machine.{roomOf}
@@ -21,9 +22,8 @@ use Rattle.interpreter.specs.Hints.{announced, textOf, heard}
 use Rattle.interpreter.specs.Parts.{joined, Listened, listened, listenedTo, listening}
 use Rattle.interpreter.specs.declared.hint.Heard.{Heard}
 use Rattle.interpreter.specs.declared.hint.Heard.the-variants.{Keep, HandOut, Refuse}
-use Rattle.interpreter.proofs.Laws.Inputs.{front-cell, back-cell}
 use Rattle.pages.specs.Calls.{numberAt, putDef, copyDef}
-use Rattle.pages.proofs.Laws.Places.{number-fits, put-fits, copy-fits}
+use Rattle.pages.proofs.Laws.Places.{number-fits, put-fits, copy-fits, cell-left, cell-past}
 use Rattle.interpreter.proofs.Laws.Tests.{ltb-rest}
 
 -- ---- room
@@ -119,30 +119,25 @@ module _ (t : List ℕ) (fits : ℕ → Bool) where
 
 -- ---- the bytes held, with those appended
 
-module _ (m : Memory) (h : List ℕ) (held address count : ℕ) where
-  length-span : length (span m address count) ≡ count
-  unfolding span
-  length-span = length-row _ address count
+-- in a buffer they stand one behind the other
+pub held-cell : (h a : List ℕ) (n : ℕ) → n + length a ≤ length h → (k : ℕ) → k < n + length a → cell (sets h n a) k ≡ cell (row (cell h) 0 n ++ a) k
+held-cell h a n r k l = go (decLt k n)
+  where
+    go : Dec (k < n) → cell (sets h n a) k ≡ cell (row (cell h) 0 n ++ a) k
+    go (yes b) =
+        sets-below h n a k b ∙ sym (cell-left (row (cell h) 0 n) a k (rw (length-row (cell h) 0 n) b) ∙ cell-row (cell h) 0 n k b ∙ ap (cell h) (zero-add k))
+    go (no b) =
+        let e : k ≡ n + (k - n) = omega arith in
+        rw e (sets-among h n a (k - n) r (omega arith) ∙ sym (cell-past (row (cell h) 0 n) a n (k - n) (length-row (cell h) 0 n)))
 
+module _ (m : Memory) (h : List ℕ) (held address count : ℕ) where
   pub length-joined : length (joined m h held address count) ≡ held + count
   unfolding joined
   length-joined = length-append (row (cell h) 0 held) (span m address count) ∙ rw (length-row (cell h) 0 held, length-span)
 
-  -- in a buffer they stand one behind the other
-  pub joined-cell : held + count ≤ length h → (k : ℕ) → k < held + count → cell (sets h held (span m address count)) k ≡ cell (joined m h held address count) k
+  joined-cell : held + count ≤ length h → (k : ℕ) → k < held + count → cell (sets h held (span m address count)) k ≡ cell (joined m h held address count) k
   unfolding joined
-  joined-cell r k l = go (decLt k held)
-    where
-      go : Dec (k < held) → cell (sets h held (span m address count)) k ≡ cell (row (cell h) 0 held ++ span m address count) k
-      go (yes b) =
-          sets-below h held (span m address count) k b
-          ∙ sym (front-cell (row (cell h) 0 held) (span m address count) held k (length-row (cell h) 0 held) b ∙ cell-row (cell h) 0 held k b ∙ ap (cell h) (zero-add k))
-      go (no b) =
-          let e : k ≡ held + (k - held) = omega arith in
-          let i : held + length (span m address count) ≤ length h = rw length-span r in
-          let j : k - held < length (span m address count) = rw length-span (omega arith) in
-          ap (cell (sets h held (span m address count))) e ∙ sets-among h held (span m address count) (k - held) i j
-          ∙ sym (back-cell (row (cell h) 0 held) (span m address count) held k (length-row (cell h) 0 held) (omega arith))
+  joined-cell r k l = held-cell h (span m address count) held (rw length-span r) k (rw length-span l)
 
   -- the text of a whole hint, read out of the buffer
   pub joined-text : held + count ≤ length h → (n : ℕ) → 4 + n ≡ length (joined m h held address count)

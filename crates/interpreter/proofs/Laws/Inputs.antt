@@ -8,16 +8,16 @@ use native.Mathlib.Numerals.{add-one}
 use native.Mathlib.Decide.{decLt}
 use native.Mathlib.Omega.{arith}
 use lib.Dec.{eqb, leb}
-use lib.ListN.{length, set, take, drop, length-take, length-drop, List·getD-append}
-use lib.Seq.{sets, ext-getD, getD-take, getD-drop, getD-append-add}
+use lib.ListN.{length, set, take, drop, length-take, length-drop}
+use lib.Seq.{sets, ext-getD, getD-take, getD-drop}
 use borrow.Author.Tests.{eq-eqb, ne-eqb, lt-leb, leb-true}
 use Rattle.pages.specs.Bytes.{cell, row, big, bytesOf}
 use Rattle.pages.proofs.Laws.Runs.{length-row, cell-row, sets-next}
 use Rattle.pages.proofs.Laws.Numbers.{length-bytes}
-use Rattle.pages.specs.Calls.{numberAt}
-use Rattle.pages.proofs.Laws.Places.{number-fits, sets-whole}
+use Rattle.pages.specs.Calls.{numberAt, putDef}
+use Rattle.pages.proofs.Laws.Places.{number-fits, put-fits, cell-left, cell-past, sets-whole, row-whole}
 use Rattle.interpreter.proofs.Laws.Tests.{leb-rest}
-use Rattle.interpreter.specs.Inputs.{same, hasKey, entryAt, firstEntry, entryOf, inside, partOf, partDef, content, moving, moved, merged, shifting, shifted}
+use Rattle.interpreter.specs.Inputs.{same, hasKey, entryAt, firstEntry, entryOf, inside, partDef, content, moving, moved, merged, shifted}
 use Rattle.interpreter.specs.declared.input.Entry.{Entry}
 use Rattle.interpreter.specs.declared.input.Entry.the-variants.{At, Absent}
 
@@ -126,13 +126,6 @@ module _ (d : List ℕ) (s n : ℕ) where
   unfolding partDef
   part-in h = part-take (leb-true _ _ h) ∙ rw h
 
-  pub part-is : inside d s n ≡ true → partDef d s n ≡ partOf d s n
-  unfolding partDef
-  part-is h = rw h
-
-  pub length-part : inside d s n ≡ true → length (partDef d s n) ≡ n
-  length-part h = ap length (part-is h) ∙ length-row (cell d) s n
-
   pub part-out : inside d s n ≡ false → [] ≡ partDef d s n
   unfolding partDef
   part-out h = rw h
@@ -140,36 +133,29 @@ module _ (d : List ℕ) (s n : ℕ) where
 -- ---- how many bytes are moved
 
 -- what is moved lies in the doubleword and in what the program reads
-pub moving-fits : (n offset a1 a2 : ℕ) → offset ≤ 8 + n → (a1 % 8 + moving n offset a1 a2 ≤ 8) × (offset + moving n offset a1 a2 ≤ 8 + n)
+pub moving-fits : (n offset a1 a2 : ℕ) {g : ℕ} → offset ≤ 8 + n → g ≡ moving n offset a1 a2 → (a1 % 8 + g ≤ 8) × (offset + g ≤ 8 + n)
 unfolding moving
-moving-fits n offset a1 a2 h = (omega arith, omega arith)
-
-pub shifting-fits : (a1 a2 : ℕ) → a1 % 8 + shifting a1 a2 ≤ 8
-shifting-fits a1 a2 = omega arith
+moving-fits n offset a1 a2 h e = (omega arith, omega arith)
 
 -- ---- bytes behind others
 
-pub front-cell : (xs ys : List ℕ) (n i : ℕ) → length xs ≡ n → i < n → cell (xs ++ ys) i ≡ cell xs i
-front-cell xs ys n i e h = List·getD-append xs ys 0 i (rw e h)
-
-pub back-cell : (xs ys : List ℕ) (n i : ℕ) → length xs ≡ n → n ≤ i → cell (xs ++ ys) i ≡ cell ys (i - n)
-back-cell xs ys n i e h =
-    let s : i ≡ length xs + (i - n) = omega arith in
-    ap (cell (xs ++ ys)) s ∙ getD-append-add xs ys (i - n) 0
+-- behind the seam
+back-cell : (xs ys : List ℕ) (n i : ℕ) → length xs ≡ n → n ≤ i → cell ys (i - n) ≡ cell (xs ++ ys) i
+back-cell xs ys n i e h = sym (cell-past xs ys n (i - n) e) ∙ ap (cell (xs ++ ys)) (omega arith)
 
 module _ (d : List ℕ) (i : ℕ) where
   pub content-front : i < 8 → cell (bytesOf 8 (length d)) i ≡ cell (content d) i
-  content-front h = sym (front-cell (bytesOf 8 (length d)) d 8 i (length-bytes 8 (length d)) h)
+  content-front h = sym (cell-left (bytesOf 8 (length d)) d i (rw (length-bytes 8 (length d)) h))
 
   pub content-back : 8 ≤ i → cell d (i - 8) ≡ cell (content d) i
-  content-back h = sym (back-cell (bytesOf 8 (length d)) d 8 i (length-bytes 8 (length d)) h)
+  content-back h = back-cell (bytesOf 8 (length d)) d 8 i (length-bytes 8 (length d)) h
 
 module _ (key vs : List ℕ) (i : ℕ) where
   pub key-front : i < 32 → cell key i ≡ cell (row (cell key) 0 32 ++ vs) i
-  key-front h = sym (front-cell (row (cell key) 0 32) vs 32 i (length-row (cell key) 0 32) h ∙ rw (cell-row (cell key) 0 32 i h, zero-add))
+  key-front h = sym (cell-left (row (cell key) 0 32) vs i (rw (length-row (cell key) 0 32) h) ∙ rw (cell-row (cell key) 0 32 i h, zero-add))
 
   pub key-back : 32 ≤ i → cell vs (i - 32) ≡ cell (row (cell key) 0 32 ++ vs) i
-  key-back h = sym (back-cell (row (cell key) 0 32) vs 32 i (length-row (cell key) 0 32) h)
+  key-back h = back-cell (row (cell key) 0 32) vs 32 i (length-row (cell key) 0 32) h
 
 pub key-behind : (key b : List ℕ) (at count i : ℕ) → 32 ≤ i → i < 32 + count → cell b (at + (i - 32)) ≡ cell (row (cell key) 0 32 ++ row (cell b) at count) i
 key-behind key b at count i h l =
@@ -177,6 +163,12 @@ key-behind key b at count i h l =
     sym (cell-row (cell b) at count (i - 32) k) ∙ key-back key (row (cell b) at count) i h
 
 -- ---- bytes put in
+
+-- a number's bytes in as many places
+pub spread-is : (b : List ℕ) (x : ℕ) {d : List ℕ} → length b ≡ 8 → d ≡ putDef b 0 (bytesOf 8 x) → d ≡ bytesOf 8 x
+spread-is b x h p =
+    let l = length-bytes 8 x in
+    p ∙ put-fits b 0 (bytesOf 8 x) (omega arith) ∙ sets-whole b (bytesOf 8 x) (l ∙ sym h)
 
 pub row-start : (l : List ℕ) (i : ℕ) (f : ℕ → ℕ) (a : ℕ) → l ≡ sets l i (row f a 0)
 unfolding row
@@ -209,9 +201,4 @@ shifted-by key b l d x at count i h k n q p =
 -- of a key of 32 bytes, these are the last 32 bytes of the key with vs behind it
 pub shifted-key : (key vs : List ℕ) → length key ≡ 32 → shifted key vs ≡ row (cell (key ++ vs)) (length vs) (length key)
 unfolding shifted
-shifted-key key vs e = rw (e, same-key)
-  where
-    same-key : row (cell key) 0 32 ≡ key
-    same-key =
-        ext-getD 0 (row (cell key) 0 32) key (length-row (cell key) 0 32 ∙ sym e)
-        (λ i h. let k : i < 32 = omega (arith, length-row (cell key) 0 32) in cell-row (cell key) 0 32 i k ∙ ap (cell key) (zero-add i))
+shifted-key key vs e = rw (e, row-whole key 32 e)

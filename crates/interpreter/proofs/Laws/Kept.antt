@@ -1,5 +1,5 @@
 -- What every step keeps: the form of its state, and that a store goes to a doubleword.
-use mathlib.Core.Path.{_≡_, refl, ap, _∙_}
+use mathlib.Core.Path.{_≡_, refl, sym, ap, _∙_}
 use mathlib.Core.Bool.{Bool, true, false, _||_, cond}
 use mathlib.Core.List.{List, []}
 use Prim.Native.Nat.{ℕ, _+_, _*_, _/_, _%_, _^_, _≤_, _<_}
@@ -16,11 +16,12 @@ use Rattle.pages.specs.declared.memory.Stored.{Stored}
 use Rattle.pages.specs.declared.memory.Stored.the-variants.{Used, Misaligned, Overused, Full}
 use Rattle.pages.proofs.Laws.Runs.{length-row}
 use Rattle.pages.proofs.Laws.Loads.{length-span}
-use Rattle.pages.proofs.Laws.Stores.{store-cases, set-stored, set-length, used-same, used-full, used-over}
-use Rattle.interpreter.specs.Isa.{rsOf, Instruction, alu, imm, hilo, load, store, conditional, branch, jump, other, reserved, reservedBranch}
+use Rattle.pages.proofs.Laws.Lookups.{lookup-fine}
+use Rattle.pages.proofs.Laws.Stores.{store-cases, set-aligned, set-stored, set-length, used-same, used-full, used-over}
+use Rattle.interpreter.specs.Isa.{rsOf}
 use Rattle.interpreter.specs.OpcodeMap.{decode}
 use Rattle.interpreter.specs.Loads.{addressOf}
-use Rattle.interpreter.specs.Kernel.{touching, touchDef}
+use Rattle.interpreter.specs.Kernel.{touchDef}
 use Rattle.interpreter.specs.declared.effect.Change.{Change}
 use Rattle.interpreter.specs.declared.effect.Effect.{Effect}
 use Rattle.interpreter.specs.declared.effect.Effect.the-variants.{Refused as RefusedBy, Call as CallBy, Done}
@@ -42,7 +43,9 @@ use Rattle.interpreter.specs.Inputs.{entryOf, inside, partOf}
 use Rattle.interpreter.specs.Hints.{textOf, heard}
 use Rattle.interpreter.specs.Plan.{View, Store, keeps, stores, Deed, Plan, refuse, does, storing, changing, a1, a2, place, callIn, replying, staying, exiting, keying, wrote, writing, hinted, hearing, together, hinting, read, readingIn, readingAt, reading, calling, touchOf, planned, executing, wordOf, plan}
 use Rattle.interpreter.specs.Step.{left, landed, putting, lay, settled, viewOf, withCpu, working, advance, stepDef}
-use Rattle.interpreter.proofs.Laws.Paging.{no-true}
+use Rattle.interpreter.proofs.Laws.Tests.{no-true}
+use Rattle.interpreter.proofs.Laws.Paging.{isUsed}
+use Rattle.interpreter.proofs.Laws.Dests.{touchedAt, touching-all}
 use Rattle.interpreter.proofs.Laws.Hints.{out-whole}
 
 -- ---- where a store goes
@@ -58,24 +61,6 @@ abbrev pub addressIn : Store → ℕ
 addressIn keeps = 0
 addressIn (stores a x) = a
 
-abbrev touchedAt : Touch → ℕ
-touchedAt Nothing = 0
-touchedAt (Eight a) = a
-
-touching-aligned : (n : Instruction) (a : ℕ) → Aligned a → Aligned (touchedAt (touching n a))
-unfolding touching
-touching-aligned (alu x) a h = zero-aligned
-touching-aligned (imm x) a h = zero-aligned
-touching-aligned (hilo x) a h = zero-aligned
-touching-aligned (load x) a h = h
-touching-aligned (store x) a h = h
-touching-aligned (conditional x) a h = h
-touching-aligned (branch x) a h = zero-aligned
-touching-aligned (jump x) a h = zero-aligned
-touching-aligned (other x) a h = zero-aligned
-touching-aligned reserved a h = zero-aligned
-touching-aligned reservedBranch a h = zero-aligned
-
 cut-aligned : (a : ℕ) → a < 2 ^ 64 → Aligned (a / 8 * 8)
 cut-aligned a h = (omega arith, omega arith)
 
@@ -84,7 +69,7 @@ sum-small n = omega arith
 
 touch-aligned : (r : List ℕ) (w : ℕ) → Aligned (touchedAt (touchOf r w))
 unfolding touchOf touchDef
-touch-aligned r w = touching-aligned (decode w) (addressOf w (reg r (rsOf w)) / 8 * 8) (cut-aligned (addressOf w (reg r (rsOf w))) (sum-small _))
+touch-aligned r w = touching-all Aligned zero-aligned (decode w) (addressOf w (reg r (rsOf w)) / 8 * 8) (cut-aligned (addressOf w (reg r (rsOf w))) (sum-small _))
 
 storing-aligned : (t : Touch) (e : Change) → Aligned (touchedAt t) → Aligned (addressIn (storing t e))
 storing-aligned Nothing e h = zero-aligned
@@ -284,6 +269,17 @@ put-used p u w keeps h e = rw (← (used-same e)) h
 put-used p u w (stores a x) h e =
     let g = set-stored 8 p u a x {u = w} {q = setDef 8 p u a x .pages} (ap (λ (r : Stored). stored r (setDef 8 p u a x .pages)) e) in
     store-used p u a w (bytesOf 8 x) h (ap (λ (r : Set). r .answer) (g .1))
+
+-- a store to a doubleword, with the used records there, is made or finds no record left; so the last two arms of `landed` cannot come
+pub put-full : (p : List ℕ) (u : ℕ) (s : Store) → u ≤ whole p → Aligned (addressIn s) → isUsed (putting p u s .answer) ≡ false → putting p u s .answer ≡ Full
+put-full p u keeps h g e = no-true e
+put-full p u (stores a x) h g e =
+    let i = set-aligned 8 p u a x (g .0) in
+    ap (λ (r : Set). r .answer) i
+    ∙ store-cases p u a (bytesOf 8 x) (λ s. isUsed (s .answer) ≡ false → s .answer ≡ Full)
+    (λ j f k. no-true k) (λ f l k. no-true k) (λ f l k. refl)
+    (λ f k. absurd (lookup-fine p u (a / 4096) h f))
+    (ap (λ (r : Set). isUsed (r .answer)) (sym i) ∙ e)
 
 -- ---- every step
 

@@ -3,7 +3,6 @@ use mathlib.Core.Path.{_≡_, refl, sym, ap, _∙_}
 use mathlib.Core.Bool.{Bool, true, false, cond}
 use mathlib.Core.List.{List}
 use Prim.Native.Nat.{ℕ, _+_, _%_}
-use native.Mathlib.Omega.{arith}
 use lib.Dec.{eqb, ltb}
 use borrow.Author.Tests.{eq-eqb}
 use Rattle.pages.specs.Bytes.{big, bytesOf}
@@ -18,6 +17,7 @@ use Rattle.pages.specs.declared.memory.Stored.the-variants.{Used, Misaligned, O
 use Rattle.pages.proofs.Laws.Numbers.{big-none}
 use Rattle.interpreter.specs.Plan.{Store, keeps, stores}
 use Rattle.interpreter.specs.Step.{putting}
+use Rattle.interpreter.proofs.Laws.Tests.{no-true}
 
 -- ---- loads: where more records are said to be used than there are, the memory is zero
 
@@ -60,9 +60,6 @@ isUsed OverusedStore = false
 -- the pages where nothing was stored
 abbrev leaves : List ℕ → Set → Type 0
 leaves p s = isUsed (s .answer) ≡ false → s .pages ≡ p
-
-pub no-true : {A : Type 0} → true ≡ false → A
-no-true e = let z : _≡_ {A = ℕ} 0 1 = ap (λ t. cond t 0 1) e in absurd (omega arith)
 
 absent-leaves : (p q : List ℕ) (u v : ℕ) (t : Bool) → leaves p (cond t (stored (Used v) q) (stored Full p))
 absent-leaves p q u v true e = no-true e

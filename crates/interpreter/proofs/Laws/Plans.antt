@@ -5,7 +5,7 @@ use mathlib.Core.List.{List}
 use Prim.Native.Nat.{ℕ, _+_, _-_, _*_, _/_, _%_, _≤_, _<_}
 use native.Mathlib.Omega.{arith}
 use lib.Dec.{leb, ltb}
-use lib.ListN.{length, length-append}
+use lib.ListN.{length}
 use lib.Seq.{sets}
 use borrow.Author.Tests.{le-leb, lt-leb, le-ltb, lt-ltb, ltb-false, ne-eqb}
 use Rattle.pages.specs.Bytes.{big, row, cell, bytesOf}
@@ -36,12 +36,14 @@ use Rattle.interpreter.specs.declared.input.Entry.{Entry}
 use Rattle.interpreter.specs.declared.input.Entry.the-variants.{At, Absent}
 use Rattle.interpreter.specs.declared.linux.Call.{Call}
 use Rattle.interpreter.specs.Hints.{heard}
-use Rattle.interpreter.specs.Parts.{Listened, listened, listenedTo, joined, listening}
+use Rattle.interpreter.specs.Parts.{after, refusing, doing, Listened, listened, listenedTo, joined, listening}
 use Rattle.interpreter.specs.declared.hint.Heard.{Heard}
 use Rattle.interpreter.specs.declared.hint.Heard.the-variants.{Keep, HandOut, Refuse}
-use Rattle.interpreter.specs.Plan.{View, keeps, Deed, storing, does, changing, staying, replying, exiting, keying, wrote, writing, hinted, hearing, hinting, read, readFrom, readingIn, reading, refuse, calling, callIn, eightAt, insOf, touchOf, planned, executing, plan}
-use Rattle.interpreter.specs.Step.{Left, after, refusing, doing, landed, putting, lay, settled, viewOf, working, advance}
-use Rattle.interpreter.proofs.Laws.Paging.{isUsed, unstored, no-true}
+use Rattle.interpreter.specs.Plan.{View, Deed, storing, does, changing, staying, replying, exiting, keying, wrote, writing, hinted, hearing, hinting, read, readFrom, readingIn, reading, refuse, calling, callIn, eightAt, insOf, touchOf, planned, executing, plan}
+use Rattle.interpreter.specs.Step.{Left, landed, putting, lay, settled, viewOf, working, advance}
+use Rattle.interpreter.proofs.Laws.Tests.{no-true}
+use Rattle.interpreter.proofs.Laws.Paging.{isUsed, unstored}
+use Rattle.interpreter.proofs.Laws.Hints.{length-joined}
 
 module _ (c : Cpu) (r k : List ℕ) (u : ℕ) (p h o x d : List ℕ) where
   abbrev m0 : Machine
@@ -74,11 +76,6 @@ module _ (c : Cpu) (r k : List ℕ) (u : ℕ) (p h o x d : List ℕ) where
       → n ≡ refusing c u MemoryFull → after n r k q h o ≡ working x d m0 (λ v. does (changing v t e))
   unfolding changing viewOf
   change-full t e = deed-full (λ v. changing v t e)
-
-  -- a deed that stores nothing
-  pub deed-kept : (f : View → Deed) → f (viewOf x d m0) .store ≡ keeps → settled m0 (f (viewOf x d m0)) u p ≡ working x d m0 (λ v. does (f v))
-  unfolding working lay
-  deed-kept f e = rw e
 
   -- ---- the calls
 
@@ -157,10 +154,6 @@ module _ (c : Cpu) (r k : List ℕ) (u : ℕ) (p h o x d : List ℕ) where
   heard-as Keep e = rw e
   heard-as (HandOut n) e = refl
 
-  hint-length : length t0 ≡ c .hint + reg r 6
-  unfolding joined
-  hint-length = length-append (row (cell h) 0 (c .hint)) (span (byteAt p u) (reg r 5) (reg r 6)) ∙ rw (length-row (cell h) 0 (c .hint), length-span (byteAt p u) (reg r 5) (reg r 6))
-
   hint-small : c .hint + reg r 6 ≤ roomOf h → c .hint + reg r 6 ≡ plus (c .hint) (reg r 6)
   unfolding roomOf
   hint-small e = omega arith
@@ -170,7 +163,7 @@ module _ (c : Cpu) (r k : List ℕ) (u : ℕ) (p h o x d : List ℕ) where
       ≡ lay m0 (cond b (refuse NoRoom) (hearing v0 t0 (heard t0 (λ n. leb n (length o)))))
   unfolding lay
   hint-by true e = refl
-  hint-by false e = heard-as (heard t0 (λ n. leb n (length o))) (hint-length ∙ hint-small (ltb-false _ _ e))
+  hint-by false e = heard-as (heard t0 (λ n. leb n (length o))) (length-joined (byteAt p u) h (c .hint) (reg r 5) (reg r 6) ∙ hint-small (ltb-false _ _ e))
 
   hint-as : hintAs (listening (byteAt p u) h (c .hint) (reg r 5) (reg r 6) o) ≡ working x d m0 (λ v. calling v HintWrite)
   unfolding listening joined working calling hinting viewOf
@@ -252,8 +245,3 @@ module _ (c : Cpu) (r k : List ℕ) (u : ℕ) (p h o x d : List ℕ) where
       → l ≡ working x d (machine b r k u p h o) (λ v. executing v w (touchOf (v .regs) w)) → l ≡ advance x d m0
   unfolding advance working plan viewOf counted
   step-done e y z q = q ∙ rw (z, y, e)
-
--- what a read moves lies in the doubleword and in the preimage
-pub moving-fits : (n offset a1 a2 g : ℕ) → offset ≤ 8 + n → g ≡ moving n offset a1 a2 → (a1 % 8 + g ≤ 8) × (offset + g ≤ 8 + n)
-unfolding moving
-moving-fits n offset a1 a2 g h e = (omega arith, omega arith)

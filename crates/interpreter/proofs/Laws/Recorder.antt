@@ -18,7 +18,7 @@ use Rattle.interpreter.specs.declared.effect.Effect.the-variants.{Refuse
 use Rattle.interpreter.specs.declared.effect.Refusal.{Refusal}
 use Rattle.interpreter.specs.declared.effect.Refusal.the-variants.{BadMachine}
 use Rattle.interpreter.specs.declared.effect.Touch.{Touch}
-use Rattle.interpreter.specs.declared.effect.Touch.the-variants.{Nothing, Eight}
+use Rattle.interpreter.specs.declared.effect.Touch.the-variants.{Eight}
 use Rattle.interpreter.specs.declared.state.Cpu.{Cpu}
 use Rattle.interpreter.specs.declared.state.State.{State}
 use Rattle.interpreter.specs.declared.record.Seen.{Seen}
@@ -29,8 +29,9 @@ use Rattle.interpreter.specs.Plan.{eightAt, callIn, insOf, touchOf}
 use Rattle.interpreter.specs.Step.{Left, refused, advance, stepDef, machineOf}
 use Rattle.interpreter.specs.Layout.{encode}
 use Rattle.interpreter.specs.Records.{restOf, recordOf}
-use Rattle.interpreter.specs.Recording.{calls, callWide, callTouch, wide, touched, seenCall, seen, memoryOf, stateIn, wordIn, recordFrom, recorded, Recorded, recordingAs, recording, recordedDef}
-use Rattle.interpreter.proofs.Laws.Dests.{calls-call, calls-done, calls-refused, touch-even}
+use Rattle.interpreter.specs.Recording.{calls, callWide, callTouch, wide, touched, memoryOf, stateIn, wordIn, recordFrom, recorded, Recorded, recording, recordedDef}
+use Rattle.interpreter.specs.Parts.{seenCall, seen, recordingAs}
+use Rattle.interpreter.proofs.Laws.Dests.{calls-call, calls-done, calls-refused, touchedAt, touch-even}
 use Rattle.interpreter.proofs.Laws.Plans.{step-misaligned}
 use Rattle.interpreter.proofs.Laws.Records.{record-whole}
 
@@ -66,12 +67,7 @@ module _ (c : Cpu) (r : List ℕ) (w : ℕ) {i : Ins} {e : Effect} (h : c .pc % 
   look-done z k q = look-by (calls-done i pc-as g z) (q ∙ rw k)
 
 -- the touched address is a doubleword's
-
-abbrev placeIn : Touch → ℕ
-placeIn Nothing = 0
-placeIn (Eight a) = a
-
-call-even : (a : ℕ) (g : Call) → placeIn (callTouch a g) % 8 ≡ 0
+call-even : (a : ℕ) (g : Call) → touchedAt (callTouch a g) % 8 ≡ 0
 call-even a (Reply v e) = refl
 call-even a (Heap h) = refl
 call-even a (Exit n) = refl
@@ -81,7 +77,7 @@ call-even a (Write s) = refl
 call-even a Hint = refl
 
 even-by : (b : Bool) (a x : ℕ) (g : Call) (t : Touch) → ((a : ℕ) → t ≡ Eight a → a % 8 ≡ 0) → cond b (callTouch x g) t ≡ Eight a → a % 8 ≡ 0
-even-by true a x g t h e = let q : a ≡ placeIn (callTouch x g) = ap placeIn (sym e) in rw q (call-even x g)
+even-by true a x g t h e = let q : a ≡ touchedAt (callTouch x g) = ap touchedAt (sym e) in rw q (call-even x g)
 even-by false a x g t h e = h a e
 
 pub touched-even : (c : Cpu) (r : List ℕ) (w : ℕ) {s : Seen} → s ≡ seen c r w → (a : ℕ) → s .touch ≡ Eight a → a % 8 ≡ 0

@@ -2,9 +2,7 @@
 use mathlib.Core.Path.{_≡_, refl, sym, ap, _∙_, fun-ext}
 use mathlib.Core.Bool.{Bool, true, false, not, cond}
 use mathlib.Core.List.{List, [], _++_}
-use Prim.Native.Nat.{ℕ, _+_, _-_, _^_, _≤_, _<_}
-use native.Mathlib.Nat.{zero-add}
-use native.Mathlib.Decide.{decLt}
+use Prim.Native.Nat.{ℕ, _+_, _^_, _≤_, _<_}
 use native.Mathlib.Omega.{arith}
 use lib.Dec.{leb, ltb}
 use lib.ListN.{length}
@@ -16,7 +14,7 @@ use Rattle.pages.specs.Pages.{byteAt}
 use Rattle.pages.specs.Calls.{stored, setDef}
 use Rattle.pages.specs.declared.memory.Stored.{Stored}
 use Rattle.pages.specs.declared.memory.Stored.the-variants.{Used, Misaligned, Overused, Full}
-use Rattle.pages.proofs.Laws.Runs.{length-row, cell-row, row-ext, sets-below, sets-among}
+use Rattle.pages.proofs.Laws.Runs.{length-row, row-ext}
 use Rattle.pages.proofs.Laws.Stores.{used-same}
 use Rattle.pages.proofs.Laws.Meaning.{set-means}
 use Rattle.interpreter.specs.declared.effect.Effect.{Effect}
@@ -40,8 +38,8 @@ use Rattle.interpreter.specs.Hints.{announced, textOf, heard}
 use Rattle.interpreter.specs.Plan.{View, Store, keeps, stores, Deed, Plan, refuse, does, changing, a2, callIn, replying, exiting, keying, wrote, writing, hinted, hearing, together, hinting, read, readingIn, readingAt, reading, calling, touchOf, planned, executing, wordOf, plan}
 use Rattle.interpreter.specs.Step.{Left, left, landed, putting, lay, settled, viewOf, withCpu, working, advance, stepDef}
 use Rattle.interpreter.specs.Ideal.{ideal, Outcome, outcome, idealView, remember, holding, follow, idealStep, meant, sparing, spared, Follows}
-use Rattle.interpreter.proofs.Laws.Paging.{no-true}
-use Rattle.interpreter.proofs.Laws.Inputs.{front-cell, back-cell}
+use Rattle.interpreter.proofs.Laws.Tests.{no-true}
+use Rattle.interpreter.proofs.Laws.Hints.{held-cell}
 use Rattle.interpreter.proofs.Laws.Kept.{Aligned, addressIn, Good, Sound, deed-good, Formed, formed, count-formed, view-sound}
 
 -- ---- the two plans
@@ -144,16 +142,6 @@ put-means p u (stores a x) h w e =
     fun-ext (set-means 8 p u a x w q (omega arith) (h .1) (ap (λ (r : Stored). stored r q) e))
 
 -- ---- the bytes held
-
-held-cell : (h a : List ℕ) (n : ℕ) → n + length a ≤ length h → (k : ℕ) → k < n + length a → cell (sets h n a) k ≡ cell (row (cell h) 0 n ++ a) k
-held-cell h a n r k l = go (decLt k n)
-  where
-    go : Dec (k < n) → cell (sets h n a) k ≡ cell (row (cell h) 0 n ++ a) k
-    go (yes b) =
-        sets-below h n a k b ∙ sym (front-cell (row (cell h) 0 n) a n k (length-row (cell h) 0 n) b ∙ cell-row (cell h) 0 n k b ∙ ap (cell h) (zero-add k))
-    go (no b) =
-        let e : k ≡ n + (k - n) = omega arith in
-        ap (cell (sets h n a)) e ∙ sets-among h n a (k - n) r (omega arith) ∙ sym (back-cell (row (cell h) 0 n) a n k (length-row (cell h) 0 n) (omega arith))
 
 held-same : (h a : List ℕ) (n j : ℕ) → n + length a ≤ length h → j ≤ n + length a → row (cell (sets h n a)) 0 j ≡ holding (row (cell h) 0 n) a j
 held-same h a n j r l = row-ext j (cell (sets h n a)) (cell (row (cell h) 0 n ++ a)) 0 0 (λ k i. held-cell h a n r (0 + k) (omega arith))

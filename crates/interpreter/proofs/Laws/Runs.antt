@@ -4,7 +4,7 @@ use mathlib.Core.Bool.{Bool, true, false, not, _&&_, cond}
 use mathlib.Core.List.{List}
 use Prim.Native.Nat.{ℕ, zero, suc, _+_, _-_, _<_, _≤_}
 use native.Mathlib.Numerals.{sub-one}
-use native.Mathlib.Nat.{sub-zero}
+use native.Mathlib.Nat.{add-zero, sub-zero}
 use native.Mathlib.Omega.{arith}
 use lib.Dec.{ltb}
 use lib.ListN.{length}
@@ -32,9 +32,11 @@ use Rattle.interpreter.specs.Inputs.{entryOf, inside, partOf}
 use Rattle.interpreter.specs.Hints.{heard}
 use Rattle.interpreter.specs.Plan.{View, Deed, Plan, refuse, does, changing, a2, callIn, replying, exiting, keying, wrote, writing, hinted, hearing, together, hinting, read, readingIn, readingAt, reading, calling, touchOf, planned, executing, wordOf, plan}
 use Rattle.interpreter.specs.Step.{Left, left, refused, landed, putting, lay, settled, viewOf, withCpu, working, advance, stepDef, machineOf}
-use Rattle.interpreter.specs.Runs.{Ran, ran, isStepped, isRefused, tally, more, ended, onto, runDef, reached, stopped, steps, lastOf, works, Counted, all, oneMore, Repeats}
+use Rattle.interpreter.specs.Runs.{Ran, ran, isStepped, isRefused, tally, more, ended, onto, runDef, stopped, steps, lastOf, works, Counted, all, oneMore, Repeats}
+use Rattle.interpreter.specs.Parts.{reached}
 use Rattle.interpreter.proofs.Laws.Kept.{Each, step-keeps-good}
-use Rattle.interpreter.proofs.Laws.Paging.{no-true}
+use Rattle.interpreter.proofs.Laws.Steps.{bad-as}
+use Rattle.interpreter.proofs.Laws.Tests.{no-true}
 
 -- ---- the loop: the whole run is what is counted so far and the rest
 
@@ -51,9 +53,6 @@ more-none r = ap (ran (r .answer) (r .machine)) (omega arith)
 
 more-more : (a b : ℕ) (r : Ran) → more a (more b r) ≡ more (a + b) r
 more-more a b r = ap (ran (r .answer) (r .machine)) (omega arith)
-
-pub add-zero : (n : ℕ) → n + 0 ≡ n
-add-zero n = omega arith
 
 module _ (x d : List ℕ) where
   -- where 1 does not apply, it need not be asked for
@@ -104,12 +103,9 @@ module _ (x d : List ℕ) (s : State) (u : ℕ) (p h o : List ℕ) where
   run-none e q = q ∙ rw e
 
   module _ (budget : ℕ) {c : Cpu} {t : Bool} (z : c ≡ cpuOf s) (y : (r k o : List ℕ) → t ≡ bad (machine c r k u p h o)) where
-    bad-as : t ≡ bad (machineOf s u p h o)
-    bad-as = y (s .regs) (s .key) o ∙ rw z
-
     pub run-bad : {r : Ran} → 0 < budget → t ≡ true → r ≡ ran (Refused BadMachine) (machineOf s u p h o) 0 → r ≡ runDef x d budget (machineOf s u p h o)
     unfolding stepDef
-    run-bad g e q = q ∙ sym (run-suc x d budget (machineOf s u p h o) g ∙ rw (← bad-as, e))
+    run-bad g e q = q ∙ sym (run-suc x d budget (machineOf s u p h o) g ∙ rw (← bad-as s u p h o z y, e))
 
     pub run-value : {e : Reached} {b : State} {r k q g i : List ℕ} → reached e r k q g i ≡ runDef x d budget (machine c (s .regs) (s .key) u p h o) → b ≡ stateOf (e .cpu) r k
         → stopped (record { answer = e .answer; state = b; used = e .used; count = e .count }) q g i ≡ runDef x d budget (machineOf s u p h o)

@@ -1,23 +1,20 @@
--- Tests of sums that do not wrap.
-use mathlib.Core.Path.{_≡_, sym, _∙_}
+-- Tests, and sums that do not wrap.
+use mathlib.Core.Path.{_≡_, sym, ap, _∙_}
+use mathlib.Core.Bool.{true, false, cond}
 use Prim.Native.Nat.{ℕ, _+_, _-_, _≤_, _<_}
+use native.Mathlib.Nat.{add-comm}
 use native.Mathlib.Decide.{decLt}
 use native.Mathlib.Omega.{arith}
 use lib.Dec.{leb, ltb}
-use borrow.Author.Tests.{le-leb, lt-leb, lt-ltb, le-ltb}
+use borrow.Author.Tests.{lt-ltb, le-ltb}
+use Rattle.pages.proofs.Laws.Places.{leb-moved}
+
+pub no-true : {A : Type 0} → true ≡ false → A
+no-true e = let z : _≡_ {A = ℕ} 0 1 = ap (λ t. cond t 0 1) e in absurd (omega arith)
 
 -- a sum that does not wrap, as a difference
 pub leb-rest : (l s n : ℕ) → s ≤ l → leb n (l - s) ≡ leb (s + n) l
-leb-rest l s n h = go (decLt l (s + n))
-  where
-    go : Dec (l < s + n) → leb n (l - s) ≡ leb (s + n) l
-    go (yes k) =
-        let m : l - s < n = omega arith in
-        lt-leb _ _ m ∙ sym (lt-leb _ _ k)
-    go (no k) =
-        let m : n ≤ l - s = omega arith in
-        let j : s + n ≤ l = omega arith in
-        le-leb _ _ m ∙ sym (le-leb _ _ j)
+leb-rest l s n h = leb-moved n s l h ∙ ap (λ k. leb k l) (add-comm n s)
 
 pub ltb-rest : (l s n : ℕ) → s ≤ l → ltb (l - s) n ≡ ltb l (s + n)
 ltb-rest l s n h = go (decLt l (s + n))

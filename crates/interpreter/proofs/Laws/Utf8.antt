@@ -12,11 +12,9 @@ use lib.Seq.{drop-cons, drop-drop}
 use borrow.Author.Tests.{le-leb, lt-leb, ltb-true, eq-eqb, ne-eqb}
 use Rattle.pages.specs.Bytes.{cell}
 use Rattle.interpreter.specs.Utf8.{Range, _to_, rows, begins, firstRow, character, wellFormed, utf8}
+use Rattle.interpreter.proofs.Laws.Tests.{no-true}
 
 -- ---- a text that begins with bytes of some ranges
-
-never : false ≡ true → ⊥
-never e = let z : _≡_ {A = ℕ} 0 1 = cc in omega arith
 
 and-split : (p q s : Bool) → (p && (q && s)) ≡ ((p && (q && true)) && s)
 and-split true true s = refl
@@ -49,7 +47,7 @@ module _ (t : List ℕ) (at : ℕ) where
       go (yes h) = h
       go (no h) =
           let l : length t ≤ at = omega arith in
-          absurd (never (sym (begins-none r rs l) ∙ e))
+          no-true (sym e ∙ begins-none r rs l)
 
   pub begins-stop : (r : Range) (rs : List Range) → begins (r ∷ []) (drop at t) ≡ false → begins (r ∷ rs) (drop at t) ≡ false
   begins-stop r rs e = begins-split r rs ∙ rw e
@@ -91,12 +89,12 @@ module _ (a e b : ℕ) (t : List ℕ) (h : a ≤ b) (k : b ≤ e) where
       go false d true c y =
           let l : b < r .low = omega (arith, ltb-true e (r .low) c) in
           (rw (lt-leb _ _ l), y)
-      go false d false c y = absurd (never y)
+      go false d false c y = no-true (sym y)
 
   skip : (rs : List (List Range)) → outside a e rs ≡ true → firstRow rs (b ∷ t) ≡ 0
   unfolding firstRow outside
   skip [] o = refl
-  skip ([] ∷ rs) o = absurd (never o)
+  skip ([] ∷ rs) o = no-true (sym o)
   skip ((r ∷ q) ∷ rs) o =
       let m = misses r q (outside a e rs) o in
       rw (m .0) (skip rs (m .1))
@@ -105,7 +103,7 @@ module _ (a e b : ℕ) (t : List ℕ) (h : a ≤ b) (k : b ≤ e) where
       → firstRow (front ++ (a to e ∷ q) ∷ back) (b ∷ t) ≡ cond (begins q t) (suc (length q)) 0
   unfolding firstRow begins outside
   hit [] q back o p = rw (le-leb _ _ h, le-leb _ _ k, skip back p)
-  hit ([] ∷ front) q back o p = absurd (never o)
+  hit ([] ∷ front) q back o p = no-true (sym o)
   hit ((r ∷ s) ∷ front) q back o p =
       let m = misses r s (outside a e front) o in
       rw (m .0) (hit front q back (m .1) p)
@@ -169,13 +167,13 @@ module _ (b : ℕ) (t : List ℕ) where
 begins-fits : (r : List Range) (t : List ℕ) → begins r t ≡ true → length r ≤ length t
 unfolding begins
 begins-fits [] t e = omega arith
-begins-fits (r ∷ rs) [] e = absurd (never e)
+begins-fits (r ∷ rs) [] e = no-true (sym e)
 begins-fits (r ∷ rs) (b ∷ t) e = go (leb (r .low) b) (leb b (r .high)) e (begins-fits rs t)
   where
     go : (p q : Bool) → (p && (q && begins rs t)) ≡ true → (begins rs t ≡ true → length rs ≤ length t) → suc (length rs) ≤ suc (length t)
     go true true e ih = omega (arith, ih e)
-    go true false e ih = absurd (never e)
-    go false q e ih = absurd (never e)
+    go true false e ih = no-true (sym e)
+    go false q e ih = no-true (sym e)
 
 firstRow-fits : (rs : List (List Range)) (t : List ℕ) → firstRow rs t ≤ length t
 unfolding firstRow

@@ -91,18 +91,21 @@ first-fine p x (suc n) i e = go (eqb (numberOf p i) x) e (first-fine p x n (suc 
     go true e ih = let z : _≡_ {A = ℕ} 0 1 = cc in omega arith
     go false e ih = ih e
 
+pub lookup-fine : (p : List ℕ) (used x : ℕ) → used ≤ whole p → lookup p used x ≡ Overused → ⊥
+lookup-fine p used x h e = first-fine p x used 0 (sym (lookup-in p used x h) ∙ e)
+
 pub place-over : (p : List ℕ) (used a : ℕ) → whole p < used → placeOf p used a ≡ TooMany
 unfolding placeOf
 place-over p used a h = rw (lookup-out p used (a / 4096) h)
 
 pub place-fine : (p : List ℕ) (used a : ℕ) → used ≤ whole p → placeOf p used a ≡ TooMany → ⊥
 unfolding placeOf
-place-fine p used a h e = go (lookup p used (a / 4096)) (lookup-in p used (a / 4096) h) e
+place-fine p used a h e = go (lookup p used (a / 4096)) refl e
   where
-    go : (f : Lookup) → f ≡ firstOf p (a / 4096) used 0 → toPlace (a % 4096) f ≡ TooMany → ⊥
+    go : (f : Lookup) → lookup p used (a / 4096) ≡ f → toPlace (a % 4096) f ≡ TooMany → ⊥
     go (Record i) q e = let z : _≡_ {A = ℕ} 0 1 = cc in omega arith
     go Absent q e = let z : _≡_ {A = ℕ} 0 1 = cc in omega arith
-    go Overused q e = first-fine p (a / 4096) used 0 (sym q)
+    go Overused q e = lookup-fine p used (a / 4096) h q
 
 -- ---- the lookup depends on the numbers of the used records alone
 

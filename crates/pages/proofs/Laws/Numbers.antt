@@ -2,7 +2,7 @@
 use mathlib.Core.Path.{_≡_, refl, sym, _∙_}
 use mathlib.Core.List.{List, [], _∷_, _++_}
 use Prim.Native.Nat.{ℕ, zero, suc, _+_, _-_, _/_, _%_, _^_, _<_}
-use native.Mathlib.Nat.{zero-add, pow-suc}
+use native.Mathlib.Nat.{zero-add, pow-suc, one-le-pow}
 use native.Mathlib.Numerals.{add-one}
 use native.Mathlib.Decide.{decLt}
 use native.Mathlib.Omega.{arith}
@@ -42,11 +42,7 @@ big-bytes (suc n) v =
     let front : big n (cell (xs ++ ys)) 0 ≡ v / 256 % 256 ^ n =
     big-ext n (cell (xs ++ ys)) (cell xs) 0 0 (λ k h. List·getD-append xs ys 0 (0 + k) (rw (zero-add, length-bytes n (v / 256)) h)) ∙ big-bytes n (v / 256) in
     let last : cell (xs ++ ys) (0 + n) ≡ v % 256 = rw zero-add (getD-at xs (v % 256) [] 0 n (length-bytes n (v / 256))) in
-    rw (front, last, pow-suc) (sym (mod-mul v (256-pos n) (omega arith)))
-  where
-    256-pos : (k : ℕ) → 0 < 256 ^ k
-    256-pos zero = omega arith
-    256-pos (suc k) = let h = 256-pos k in rw pow-suc (omega arith)
+    rw (front, last, pow-suc) (sym (mod-mul v (one-le-pow n 256 (omega arith)) (omega arith)))
 
 pub bytes-bytes : (n v : ℕ) → Bytes (bytesOf n v)
 unfolding bytesOf

@@ -1,23 +1,11 @@
 use mathlib.Core.Path.{refl}
-use Rattle.pages.specs.Bytes.{bytesOf}
+use Rattle.interpreter.proofs.Laws.Inputs.{spread-is}
 use borrow.Author.Needs.{needs}
 use Rattle.interpreter.proofs.input.spread.Statement.{statement}
 use Rattle.interpreter.proofs.input.spread.Tie as tie
 
 returns : tie.Need-returns
-unfolding bytesOf
-returns c = refl
+returns c = spread-is _ _ refl (c .before .put-doubleword .ensures)
 
 pub spread-spec : {M : Type 1} → statement M
-spread-spec =
-    tie.close
-    (tie.spec
-    (λ c. search needs)
-    (λ c. search needs)
-    (λ c. search needs)
-    (λ c. search needs)
-    (λ c. search needs)
-    (λ c. search needs)
-    (λ c. search needs)
-    (λ c. search needs)
-    returns)
+spread-spec = tie.close (tie.spec (λ c. search needs) (λ c κs. search needs) returns)

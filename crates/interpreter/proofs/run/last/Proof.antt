@@ -1,4 +1,4 @@
-use Rattle.interpreter.proofs.Laws.Runs.{add-zero}
+use native.Mathlib.Nat.{add-zero}
 use borrow.Author.Needs.{needs}
 use Rattle.interpreter.proofs.run.last.Statement.{statement}
 use Rattle.interpreter.proofs.run.last.Tie as tie

@@ -1,11 +1,12 @@
 use mathlib.Core.Path.{refl}
-use Rattle.interpreter.proofs.Laws.Plans.{read-done, read-full, moving-fits}
+use Rattle.interpreter.proofs.Laws.Inputs.{moving-fits}
+use Rattle.interpreter.proofs.Laws.Plans.{read-done, read-full}
 use borrow.Author.Needs.{needs}
 use Rattle.interpreter.proofs.syscall.read_bytes.Statement.{statement}
 use Rattle.interpreter.proofs.syscall.read_bytes.Tie as tie
 
 merge-requires : tie.Need-merge-requires
-merge-requires c κs = moving-fits _ _ _ _ _ (c .before .before .before .before .before .before .before .before .pre) (c .before .before .before .moving .ensures)
+merge-requires c κs = moving-fits _ _ _ _ (c .before .before .before .before .before .before .before .before .pre) (c .before .before .before .moving .ensures)
 
 returns : tie.Need-returns
 returns c k h o x d = read-done _ _ k _ _ h o x d _ (c .before .before .before .before .before .before .before .before .before .before .before .before .before .before .before .before .moving .ensures) (c .before .before .before .before .before .before .before .before .before .before .before .before .before .before .before .aligned .ensures .0) (c .before .before .before .before .before .before .before .before .before .before .before .before .before .eight .ensures) (c .before .before .before .before .before .before .before .before .before .before .before .before .merge .ensures) (c .before .before .before .before .before .before .before .before .before .before .set-doubleword .ensures) (c .before .before .before .before .before .before .stored .given .1) (c .before .before .before .reply .ensures) (c .before .before .plus .ensures) (c .before .onward .ensures) (c .doing .ensures)
