@@ -27,3 +27,7 @@ pub mod Steps
 pub mod Refine
 pub mod Recorder
 pub mod Runs
+pub mod Bounds
+pub mod Sizes
+pub mod Shown
+pub mod Narrow

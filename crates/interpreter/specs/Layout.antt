@@ -74,6 +74,10 @@ blank = record { regs = zeros 32; pc = 0; next = 0; hi = 0; lo = 0; heap = 0; st
 unfoldable pub malformed : Decoded
 malformed = record { formed = false; state = blank }
 
+-- what the 360 bytes from byte k on say
+unfoldable pub decodedAt : List ℕ → ℕ → Decoded
+decodedAt b k = cond (leb (k + 360) (length b) && formedAt b k) (valid (decodeAt b k)) malformed
+
 unfoldable pub decodeDef : List ℕ → Decoded
 decodeDef b = cond (eqb (length b) 360 && formedAt b 0) (valid (decodeAt b 0)) malformed
 

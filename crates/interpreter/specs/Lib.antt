@@ -18,5 +18,6 @@ pub mod Layout
 pub mod Records
 pub mod Recording
 pub mod Ideal
+pub mod Shown
 pub mod Runs
 pub mod Parts

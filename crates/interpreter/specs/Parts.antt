@@ -1,7 +1,7 @@
 -- What the code's private parts answer and leave. No public promise rests on these.
 use Prim.Native.Nat.{ℕ, _+_}
-use mathlib.Core.Bool.{true, false, cond}
-use mathlib.Core.List.{List, _++_}
+use mathlib.Core.Bool.{Bool, true, false, cond}
+use mathlib.Core.List.{List, [], _++_}
 use lib.Dec.{leb, ltb}
 use lib.ListN.{length}
 use lib.Seq.{sets}
@@ -19,12 +19,17 @@ use Rattle.interpreter.specs.declared.record.Seen.{Seen}
 use Rattle.interpreter.specs.declared.run.Reached.{Reached}
 use Rattle.interpreter.specs.declared.hint.Heard.{Heard}
 use Rattle.interpreter.specs.declared.hint.Heard.the-variants.{Keep, HandOut, Refuse}
-use Rattle.interpreter.specs.Machine.{Machine, machine, roomOf}
+use Rattle.interpreter.specs.declared.effect.Change.{Change}
+use Rattle.interpreter.specs.declared.effect.Touch.the-variants.{Nothing, Eight}
+use Rattle.interpreter.specs.declared.shown.Made.the-variants.{Wide, Stepped}
+use Rattle.interpreter.specs.Machine.{Machine, machine, reg, setReg, changed, roomOf}
+use Rattle.interpreter.specs.Plan.{Store, keeps, stores, eightAt, storing, callIn, calling}
+use Rattle.interpreter.specs.Ideal.{ideal, idealView, remember}
+use Rattle.interpreter.specs.Recording.{callWide, callTouch, wide, touched, memoryOf, stateIn, Recorded, recorded}
+use Rattle.interpreter.specs.Shown.{shownAt, Shown, shown, madeBy}
 use Rattle.interpreter.specs.Hints.{textOf, heard}
-use Rattle.interpreter.specs.Plan.{eightAt}
 use Rattle.interpreter.specs.Step.{Left, left}
 use Rattle.interpreter.specs.Records.{recordOf}
-use Rattle.interpreter.specs.Recording.{callWide, wide, callTouch, touched, memoryOf, stateIn, Recorded, recorded}
 use Rattle.interpreter.specs.Runs.{Ran, ran}
 
 -- ---- the step on lent registers
@@ -82,3 +87,21 @@ unfoldable pub listening : Memory → List ℕ → ℕ → ℕ → ℕ → List 
 listening m h held address count o =
     cond (ltb (roomOf h) (held + count)) (listened (Refuse NoRoom) h o)
     (listenedTo h (sets h held (span m address count)) (joined m h held address count) o (heard (joined m h held address count) (λ n. leb n (length o))))
+
+-- ---- the step that a record shows, once it is counted
+
+-- a system call
+unfoldable pub calledShown : Cpu → List ℕ → List ℕ → Touch → Memory → Call → Shown
+calledShown c r k t m g = cond (callWide g) (shown Wide r k) (madeBy r k m t (calling (idealView [] [] (ideal c r k m [])) g))
+
+unfoldable pub callShown : Cpu → List ℕ → List ℕ → ℕ → Shown
+callShown c r k x = calledShown c r k (callTouch (reg r 5) (callIn c r)) (shownAt (callTouch (reg r 5) (callIn c r)) x) (callIn c r)
+
+-- what an instruction stores
+abbrev pub storeOf : Touch → Bool → ℕ → Store
+storeOf Nothing b v = keeps
+storeOf (Eight a) b v = cond b (stores a v) keeps
+
+-- any other instruction, that changes e
+unfoldable pub changeShown : Cpu → List ℕ → List ℕ → Touch → ℕ → Change → Shown
+changeShown c r k t x e = shown (Stepped (changed c e) t (eightAt (remember (shownAt t x) (storing t e)) t)) (setReg r (e .dest) (e .value)) k

@@ -5,7 +5,7 @@ ghost use lib.ListN.{length};
 ghost use lib.Seq.{sets};
 ghost use Rattle.pages.specs.Bytes.{cell, row};
 ghost use Rattle.interpreter.specs.Machine.{stateOf};
-ghost use Rattle.interpreter.specs.Layout.{flag, eights, numbersOf, lastOf, encode, numbers, decodeAt, formedAt, malformed, decodeDef};
+ghost use Rattle.interpreter.specs.Layout.{flag, eights, numbersOf, lastOf, encode, numbers, decodeAt, formedAt, malformed, decodedAt, decodeDef};
 use crate::hint::Heard;
 use crate::state::Cpu;
 use crate::state::State;
@@ -218,6 +218,26 @@ fn malformed() -> Decoded
     }
 }
 
+// What the state's bytes from a place on say.
+pub fn decode_at(bytes: &[u8], at: usize) -> Decoded
+    ensures { λ r. ⌜ r ≡ decodedAt (now (bytes .entry)) at ⌝ }
+{
+    if bytes.len() < Layout::SIZE {
+        return malformed();
+    }
+    if bytes.len() - Layout::SIZE < at {
+        return malformed();
+    }
+    if formed_at(bytes, at) {
+        let state = state_at(bytes, at);
+        return Decoded {
+            formed: true,
+            state,
+        };
+    }
+    malformed()
+}
+
 // What the bytes say.
 pub fn decode(bytes: &[u8]) -> Decoded
     ensures { λ r. ⌜ r ≡ decodeDef (now (bytes .entry)) ⌝ }
@@ -225,14 +245,7 @@ pub fn decode(bytes: &[u8]) -> Decoded
     if bytes.len() != Layout::SIZE {
         return malformed();
     }
-    if formed_at(bytes, 0) {
-        let state = state_at(bytes, 0);
-        return Decoded {
-            formed: true,
-            state,
-        };
-    }
-    malformed()
+    decode_at(bytes, 0)
 }
 
 impl State {

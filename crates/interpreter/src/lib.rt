@@ -34,7 +34,8 @@ pub mod linux;
 mod syscall;
 pub mod utf8;
 
-// One step, its record, and the step repeated.
+// One step, its record, the step repeated, and the step that a record shows.
 pub mod record;
 pub mod run;
+pub mod shown;
 pub mod step;

@@ -40,7 +40,7 @@ pub struct Cpu {
 }
 
 impl State {
-    pub(crate) fn cpu(self) -> Cpu
+    pub fn cpu(self) -> Cpu
         ensures { λ r. ⌜ r ≡ cpuOf self ⌝ }
     {
         Cpu {

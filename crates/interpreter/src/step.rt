@@ -127,7 +127,7 @@ fn register(regs: &[u64; 32], i: u64) -> u64
     regs[i as usize]
 }
 
-fn set_reg(regs: &mut [u64; 32], i: u64, v: u64)
+pub(crate) fn set_reg(regs: &mut [u64; 32], i: u64, v: u64)
     requires { ⌜ i < 32 ⌝ }
     ensures { λ _. ⌜ now (regs .exit) ≡ setReg (now (regs .entry)) i v ⌝ }
 {

@@ -4,7 +4,7 @@ ghost use mathlib.Core.List.{List};
 ghost use Prim.Native.Nat.{ℕ, _+_, _-_, _≤_};
 ghost use lib.ListN.{length};
 ghost use Rattle.interpreter.specs.Machine.{answering, roomOf, machine};
-ghost use Rattle.interpreter.specs.Plan.{does, calling, callIn, readFrom, readingIn};
+ghost use Rattle.interpreter.specs.Plan.{does, keying, calling, callIn, readFrom, readingIn};
 ghost use Rattle.interpreter.specs.Step.{working};
 ghost use Rattle.interpreter.specs.Parts.{after};
 ghost use Rattle.interpreter.specs.declared.linux.Call.the-variants.{Answer as Reply, Heap, Exit, Key, Input, Write, Hint as HintWrite};
@@ -32,7 +32,7 @@ fn reply(regs: &mut [u64; 32], v: u64, e: u64)
 }
 
 // A call that answers v with the error e, and changes nothing else.
-fn answered(c: Cpu, regs: &mut [u64; 32], used: usize, v: u64, e: u64) -> Next
+pub(crate) fn answered(c: Cpu, regs: &mut [u64; 32], used: usize, v: u64, e: u64) -> Next
     ensures { λ r. ⌜ ((k p h o x d : List ℕ) → after r (now (regs .exit)) k p h o ≡ working x d (machine c (now (regs .entry)) k used p h o) (λ s. calling s (Reply v e))) ⌝ }
 {
     reply(regs, v, e);
@@ -40,7 +40,7 @@ fn answered(c: Cpu, regs: &mut [u64; 32], used: usize, v: u64, e: u64) -> Next
 }
 
 // 5009 where the heap grows.
-fn grown(c: Cpu, regs: &mut [u64; 32], used: usize, heap: u64) -> Next
+pub(crate) fn grown(c: Cpu, regs: &mut [u64; 32], used: usize, heap: u64) -> Next
     ensures { λ r. ⌜ ((k p h o x d : List ℕ) → after r (now (regs .exit)) k p h o ≡ working x d (machine c (now (regs .entry)) k used p h o) (λ s. calling s (Heap heap))) ⌝ }
 {
     reply(regs, c.heap, 0);
@@ -48,23 +48,35 @@ fn grown(c: Cpu, regs: &mut [u64; 32], used: usize, heap: u64) -> Next
 }
 
 // 5205: registers and pc stay.
-fn exited(c: Cpu, used: usize, code: u8) -> Next
+pub(crate) fn exited(c: Cpu, used: usize, code: u8) -> Next
     ensures { λ r. ⌜ ((l k p h o x d : List ℕ) → after r l k p h o ≡ working x d (machine c l k used p h o) (λ s. calling s (Exit code))) ⌝ }
 {
     step::doing(Answer::Exited(code), c.leaving(code), used)
 }
 
-// 5001 on 6: bytes of one doubleword go into the key's end.
-fn keyed(c: Cpu, regs: &mut [u64; 32], key: &mut [u8; 32], pages: &[u8], used: usize) -> Next
-    ensures { λ r. ⌜ ((h o x d : List ℕ) → after r (now (regs .exit)) (now (key .exit)) (now (pages .entry)) h o ≡ working x d (machine c (now (regs .entry)) (now (key .entry)) used (now (pages .entry)) h o) (λ s. calling s Key)) ⌝ }
+// 5001 on 6 where x is the doubleword that a1 lies in: some of its bytes go into the key's end.
+pub(crate) fn keyed_by(
+    c: Cpu,
+    regs: &mut [u64; 32],
+    key: &mut [u8; 32],
+    used: usize,
+    x: u64,
+) -> Next
+    ensures { λ r. ⌜ ((p h o i d : List ℕ) → after r (now (regs .exit)) (now (key .exit)) p h o ≡ working i d (machine c (now (regs .entry)) (now (key .entry)) used p h o) (λ s. does (keying s x))) ⌝ }
 {
     let a1 = regs[5];
-    let a2 = regs[6];
-    let x = step::eight(pages, used, step::aligned(a1));
-    let n = input::shifting(a1, a2);
+    let n = input::shifting(a1, regs[6]);
     input::shift_key(key, x, a1 % 8, n);
     reply(regs, n, 0);
     step::doing(Answer::Stepped, c.onward(c.heap, 0, c.hint), used)
+}
+
+// 5001 on 6.
+fn keyed(c: Cpu, regs: &mut [u64; 32], key: &mut [u8; 32], pages: &[u8], used: usize) -> Next
+    ensures { λ r. ⌜ ((h o x d : List ℕ) → after r (now (regs .exit)) (now (key .exit)) (now (pages .entry)) h o ≡ working x d (machine c (now (regs .entry)) (now (key .entry)) used (now (pages .entry)) h o) (λ s. calling s Key)) ⌝ }
+{
+    let x = step::eight(pages, used, step::aligned(regs[5]));
+    keyed_by(c, regs, key, used, x)
 }
 
 // 5001 on 1 and 2: bytes of memory go to the front of the output.

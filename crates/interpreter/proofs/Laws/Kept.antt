@@ -54,20 +54,20 @@ use Rattle.interpreter.proofs.Laws.Hints.{out-whole}
 abbrev pub Aligned : ℕ → Type 0
 Aligned a = (a % 8 ≡ 0) × (a < 2 ^ 64)
 
-zero-aligned : Aligned 0
+pub zero-aligned : Aligned 0
 zero-aligned = (refl, omega arith)
 
 abbrev pub addressIn : Store → ℕ
 addressIn keeps = 0
 addressIn (stores a x) = a
 
-cut-aligned : (a : ℕ) → a < 2 ^ 64 → Aligned (a / 8 * 8)
+pub cut-aligned : (a : ℕ) → a < 2 ^ 64 → Aligned (a / 8 * 8)
 cut-aligned a h = (omega arith, omega arith)
 
 sum-small : (n : ℕ) → n % 2 ^ 64 < 2 ^ 64
 sum-small n = omega arith
 
-touch-aligned : (r : List ℕ) (w : ℕ) → Aligned (touchedAt (touchOf r w))
+pub touch-aligned : (r : List ℕ) (w : ℕ) → Aligned (touchedAt (touchOf r w))
 unfolding touchOf touchDef
 touch-aligned r w = touching-all Aligned zero-aligned (decode w) (addressOf w (reg r (rsOf w)) / 8 * 8) (cut-aligned (addressOf w (reg r (rsOf w))) (sum-small _))
 

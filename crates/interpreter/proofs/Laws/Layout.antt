@@ -16,7 +16,7 @@ use Rattle.pages.proofs.Laws.Runs.{length-row, cell-row}
 use Rattle.pages.proofs.Laws.Numbers.{length-bytes}
 use Rattle.pages.proofs.Laws.Places.{number-fits, put-fits, sets-then, sets-whole}
 use Rattle.interpreter.specs.Machine.{reg, cpuOf, stateOf, largestRules, hintRoom, formless}
-use Rattle.interpreter.specs.Layout.{eights, flag, numbersOf, lastOf, encode, eight, numbers, decodeAt, formedAt, valid, malformed, decodeDef}
+use Rattle.interpreter.specs.Layout.{eights, flag, numbersOf, lastOf, encode, eight, numbers, decodeAt, formedAt, valid, malformed, decodedAt, decodeDef}
 use Rattle.interpreter.specs.declared.state.State.{State}
 use Rattle.interpreter.specs.declared.state.Cpu.{Cpu}
 
@@ -207,10 +207,19 @@ module _ (b : List ℕ) where
   unfolding decodeDef
   decode-other h = rw (ne-eqb _ _ h)
 
-  pub decode-valid : {f : Bool} {s : State} → length b ≡ 360 → f ≡ formedAt b 0 → f ≡ true → s ≡ decodeAt b 0 → valid s ≡ decodeDef b
-  unfolding decodeDef
-  decode-valid h e t p = rw (eq-eqb _ _ h, ← e, t, p)
+  pub decode-whole : length b ≡ 360 → decodedAt b 0 ≡ decodeDef b
+  unfolding decodedAt decodeDef
+  decode-whole h = rw (h, eq-eqb 360 360 refl, le-leb 360 360 (omega arith))
 
-  pub decode-malformed : {f : Bool} → length b ≡ 360 → f ≡ formedAt b 0 → f ≡ false → malformed ≡ decodeDef b
-  unfolding decodeDef
-  decode-malformed h e t = rw (eq-eqb _ _ h, ← e, t)
+  module _ (k : ℕ) where
+    pub decoded-short : length b < k + 360 → malformed ≡ decodedAt b k
+    unfolding decodedAt
+    decoded-short h = rw (lt-leb _ _ h)
+
+    pub decoded-valid : {f : Bool} {s : State} → k + 360 ≤ length b → f ≡ formedAt b k → f ≡ true → s ≡ decodeAt b k → valid s ≡ decodedAt b k
+    unfolding decodedAt
+    decoded-valid h e t p = rw (le-leb _ _ h, ← e, t, p)
+
+    pub decoded-malformed : {f : Bool} → k + 360 ≤ length b → f ≡ formedAt b k → f ≡ false → malformed ≡ decodedAt b k
+    unfolding decodedAt
+    decoded-malformed h e t = rw (le-leb _ _ h, ← e, t)

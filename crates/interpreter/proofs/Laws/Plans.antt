@@ -93,11 +93,15 @@ module _ (c : Cpu) (r k : List ℕ) (u : ℕ) (p h o x d : List ℕ) where
   unfolding working calling lay exiting viewOf settled
   exit-done a z w = rw (w, z)
 
-  pub key-done : {n : Next} {b : Cpu} {l j : List ℕ} {g y a : ℕ} → a ≡ reg r 5 / 8 * 8 → y ≡ big 8 (byteAt p u) a → g ≡ shifting (reg r 5) (reg r 6)
+  pub key-shifted : (y : ℕ) {n : Next} {b : Cpu} {l j : List ℕ} {g : ℕ} → g ≡ shifting (reg r 5) (reg r 6)
       → j ≡ shifted k (row (cell (bytesOf 8 y)) (reg r 5 % 8) g) → l ≡ answering r g 0 → b ≡ onward c (c .heap) 0 (c .hint) → n ≡ doing Stepped b u
-      → after n l j p h o ≡ working x d m0 (λ v. calling v Key)
-  unfolding working calling lay keying viewOf settled
-  key-done z1 z2 z3 z4 z5 z6 z7 = rw (z7, z6, z5, z4, z3, z2, z1)
+      → after n l j p h o ≡ working x d m0 (λ v. does (keying v y))
+  unfolding working lay keying viewOf settled
+  key-shifted y z1 z2 z3 z4 z5 = rw (z5, z4, z3, z2, z1)
+
+  pub key-done : {f : Left} {y a : ℕ} → a ≡ reg r 5 / 8 * 8 → y ≡ big 8 (byteAt p u) a → f ≡ working x d m0 (λ v. does (keying v y)) → f ≡ working x d m0 (λ v. calling v Key)
+  unfolding working calling viewOf
+  key-done z1 z2 q = q ∙ rw (z2, z1)
 
   pub write-done : (s : ℕ) {n : Next} {b : Cpu} {l q : List ℕ} → reg r 6 ≤ length o → q ≡ putDef o 0 (span (byteAt p u) (reg r 5) (reg r 6))
       → l ≡ answering r (reg r 6) 0 → b ≡ staying c → n ≡ doing (Wrote s (reg r 6)) b u → after n l k p h q ≡ working x d m0 (λ v. calling v (Write s))
