@@ -19,6 +19,7 @@ use Rattle.interpreter.specs.declared.step.Answer.the-variants.{Stepped,
 use Rattle.interpreter.specs.declared.step.Values.{Values}
 use Rattle.interpreter.specs.declared.state.State.{State}
 use Rattle.interpreter.specs.declared.step.Finished.{Finished}
+use Rattle.interpreter.specs.declared.step.InPlace.{InPlace}
 use Rattle.interpreter.specs.Machine.{Machine, machine, cpuOf, counted, roomOf, bad}
 use Rattle.interpreter.specs.Plan.{View, Plan, refuse, does, Deed, Store, keeps, stores, plan}
 
@@ -97,3 +98,7 @@ machineOf s u p h o = machine (cpuOf s) (s .regs) (s .key) u p h o
 -- what the step by value leaves, with the lent bytes as they are then
 abbrev pub finished : Finished → List ℕ → List ℕ → List ℕ → Left
 finished f p h o = left (f .answer) (machineOf (f .state) (f .used) p h o) (f .counts)
+
+-- what the step in place leaves, with the state that stands there then
+abbrev pub inPlace : InPlace → State → Finished
+inPlace r s = record { answer = r .answer; state = s; used = r .used; counts = r .counts }

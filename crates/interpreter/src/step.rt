@@ -7,7 +7,7 @@ ghost use Rattle.pages.specs.Pages.{byteAt};
 ghost use Rattle.pages.specs.Calls.{stored};
 ghost use Rattle.interpreter.specs.Machine.{reg, setReg, roomOf, machine, bad};
 ghost use Rattle.interpreter.specs.Plan.{does, changing, storing, eightAt, insOf, touchOf, executing};
-ghost use Rattle.interpreter.specs.Step.{valuesOf, refused, putting, working, advance, machineOf, finished, stepDef};
+ghost use Rattle.interpreter.specs.Step.{valuesOf, refused, putting, working, advance, machineOf, finished, inPlace, stepDef};
 ghost use Rattle.interpreter.specs.Parts.{after, doing, refusing};
 ghost use Rattle.interpreter.specs.declared.effect.Refusal.the-variants.{BadMachine};
 ghost use Rattle.interpreter.specs.declared.effect.Touch.the-variants.{Eight};
@@ -84,6 +84,13 @@ pub struct Finished {
     pub state: State,
     pub used: usize,
     // Whether it was an unrefused step from an unexited state.
+    pub counts: bool,
+}
+
+// What the step in place leaves beside the lent machine: the same without the state.
+pub struct InPlace {
+    pub answer: Answer,
+    pub used: usize,
     pub counts: bool,
 }
 
@@ -349,5 +356,27 @@ pub fn step(
         state,
         used: n.used,
         counts: n.counts,
+    }
+}
+
+// The same on a lent machine, stepped where it is. Rattle does not cover a lent struct: this stays thin, and its proof is a walk
+// by hand.
+pub fn step_in_place(
+    s: &mut State,
+    pages: &mut [u8],
+    used: usize,
+    hint: &mut [u8],
+    output: &mut [u8],
+    index: &[u8],
+    data: &[u8],
+) -> InPlace
+    ensures { λ r. ⌜ finished (inPlace r (now (s .exit))) (now (pages .exit)) (now (hint .exit)) (now (output .exit)) ≡ stepDef (now (index .entry)) (now («data» .entry)) (machineOf (now (s .entry)) used (now (pages .entry)) (now (hint .entry)) (now (output .entry))) ⌝ }
+{
+    let f = step(*s, pages, used, hint, output, index, data);
+    *s = f.state;
+    InPlace {
+        answer: f.answer,
+        used: f.used,
+        counts: f.counts,
     }
 }

@@ -5,6 +5,7 @@ use mathlib.Core.List.{List}
 use lib.Dec.{eqb, ltb, leb}
 use lib.ListN.{length}
 use lib.Seq.{sets}
+use denote.Ref.{RefT}
 use Rattle.pages.specs.Bytes.{cell, row, big, bytesOf}
 use Rattle.pages.specs.Memory.{Memory, span}
 use Rattle.pages.specs.Pages.{whole, lookup, byteAt, openPage}
@@ -14,6 +15,7 @@ use Rattle.pages.specs.declared.memory.Loaded.{Loaded}
 use Rattle.pages.specs.declared.memory.Loaded.the-variants.{Value, Misaligned as MisalignedLoad, Overused as OverusedLoad}
 use Rattle.pages.specs.declared.memory.Stored.{Stored}
 use Rattle.pages.specs.declared.memory.Stored.the-variants.{Used, Misaligned, Overused, Full}
+use Rattle.pages.specs.declared.reader.MemoryReader.{MemoryReader}
 use Rattle.pages.specs.declared.reader.Position.{Position}
 use Rattle.pages.specs.declared.reader.Read.{Read}
 use Rattle.pages.specs.declared.reader.Read.the-variants.{Moved, Overused as OverusedRead}
@@ -84,3 +86,16 @@ readSome m s b n = given (Moved n (moved s n)) (sets b 0 (span m (s .address) n)
 
 unfoldable pub readDef : List ℕ → ℕ → Position → List ℕ → Given
 readDef p used s b = cond (ltb (whole p) used) (given OverusedRead b) (readSome (byteAt p used) s b (min (s .count) (length b)))
+
+-- ---- a reader that holds the pages' slice
+
+abbrev pub reader : RefT (List ℕ) → ℕ → ℕ → ℕ → MemoryReader
+reader p used a n = record { pages = p; used = used; address = a; count = n }
+
+-- where it stands
+abbrev pub positionOf : MemoryReader → Position
+positionOf r = record { address = r .address; count = r .count }
+
+-- the same slice from another position on
+abbrev pub movedTo : MemoryReader → Position → MemoryReader
+movedTo r s = reader (r .pages) (r .used) (s .address) (s .count)

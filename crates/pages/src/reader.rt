@@ -5,7 +5,7 @@ ghost use lib.ListN.{length};
 ghost use lib.Seq.{sets};
 ghost use Rattle.pages.specs.Memory.{span};
 ghost use Rattle.pages.specs.Pages.{byteAt};
-ghost use Rattle.pages.specs.Calls.{given, readDef, putDef};
+ghost use Rattle.pages.specs.Calls.{given, readDef, putDef, reader, positionOf, movedTo};
 use crate::inside;
 use crate::page;
 use crate::page::Page;
@@ -59,16 +59,6 @@ fn copy_memory(pages: &[u8], used: usize, address: u64, buf: &mut [u8], at: usiz
     }
 }
 
-// The same where the bytes lie in buf, and nothing where they do not.
-pub fn copy_out(pages: &[u8], used: usize, address: u64, buf: &mut [u8], at: usize, count: usize)
-    ensures { λ _. ⌜ now (buf .exit) ≡ putDef (now (buf .entry)) at (span (byteAt (now (pages .entry)) used) address count) ⌝ }
-{
-    if inside::holds(buf.len(), at, count) {
-        copy_memory(pages, used, address, buf, at, count);
-        return;
-    }
-}
-
 fn least(a: u64, b: usize) -> usize
     ensures { λ r. ⌜ r ≡ min a b ⌝ }
 {
@@ -93,5 +83,72 @@ impl Position {
                 count: self.count - n as u64,
             },
         )
+    }
+}
+
+// A reader that holds the pages' slice. Rattle covers no function over such a struct, so these are thin and their proofs are
+// walks by hand: each takes the reader apart, and Position does the work.
+pub struct MemoryReader<'a> {
+    pub pages: &'a [u8],
+    pub used: usize,
+    pub address: u64,
+    pub count: u64,
+}
+
+impl<'a> MemoryReader<'a> {
+    pub fn new(pages: &'a [u8], used: usize, address: u64, count: u64) -> MemoryReader<'a>
+        ensures { λ r. ⌜ r ≡ reader (pages .entry) used address count ⌝ }
+    {
+        MemoryReader {
+            pages,
+            used,
+            address,
+            count,
+        }
+    }
+
+    // As many bytes as may be read and buf holds.
+    pub fn read(self, buf: &mut [u8]) -> Read
+        ensures { λ r. ⌜ given r (now (buf .exit)) ≡ readDef (now (self .entry .pages)) (self .entry .used) (positionOf (self .entry)) (now (buf .entry)) ⌝ }
+    {
+        let position = Position {
+            address: self.address,
+            count: self.count,
+        };
+        position.read(self.pages, self.used, buf)
+    }
+
+    // The reader where a read left it.
+    pub fn moved(self, to: Position) -> MemoryReader<'a>
+        ensures { λ r. ⌜ r ≡ movedTo (self .entry) to ⌝ }
+    {
+        MemoryReader {
+            pages: self.pages,
+            used: self.used,
+            address: to.address,
+            count: to.count,
+        }
+    }
+}
+
+// A reader is made and read from. The parameters are plain, so whoever calls this needs no walk.
+fn read_memory(pages: &[u8], used: usize, address: u64, count: u64, buf: &mut [u8]) -> Read
+    ensures { λ r. ⌜ given r (now (buf .exit)) ≡ readDef (now (pages .entry)) used (record { address = address; count = count }) (now (buf .entry)) ⌝ }
+{
+    MemoryReader::new(pages, used, address, count).read(buf)
+}
+
+// count bytes from the address on, to buf from a place on, where they lie in buf, and nothing where they do not.
+pub fn copy_out(pages: &[u8], used: usize, address: u64, buf: &mut [u8], at: usize, count: usize)
+    ensures { λ _. ⌜ now (buf .exit) ≡ putDef (now (buf .entry)) at (span (byteAt (now (pages .entry)) used) address count) ⌝ }
+{
+    if inside::holds(buf.len(), at, count) {
+        let end = at + count;
+        let got = read_memory(pages, used, address, count as u64, &mut buf[at..end]);
+        match got {
+            Read::Moved(_, _) => {}
+            // Where more records are said to be used than there are, a read is refused, and each byte counts as zero.
+            Read::Overused => inside::clear(buf, at, count),
+        }
     }
 }

@@ -1,19 +1,19 @@
 -- What is read at a place is what the memory that the records are has at the address.
 use mathlib.Core.Path.{_≡_, refl, sym, ap, _∙_}
 use mathlib.Core.Bool.{Bool, true, false, cond}
-use mathlib.Core.List.{List}
+use mathlib.Core.List.{List, _++_}
 use Prim.Native.Nat.{ℕ, zero, suc, _+_, _-_, _/_, _%_, _^_, _≤_, _<_, min}
-use native.Mathlib.Nat.{zero-add}
+use native.Mathlib.Nat.{zero-add, le-refl, min-eq-left}
 use native.Mathlib.Omega.{arith}
 use lib.Dec.{ltb}
-use lib.ListN.{length}
+use lib.ListN.{length, take, drop}
 use lib.Seq.{sets}
 use borrow.Author.Tests.{eq-eqb, ne-eqb, lt-ltb, le-ltb, ltb-true, ltb-false}
 use Rattle.pages.specs.Bytes.{cell, big, row, zeros}
 use Rattle.pages.specs.Memory.{span}
 use Rattle.pages.specs.Pages.{whole, lookup, byteIn, byteAt}
 use Rattle.pages.specs.Places.{placeOf, toPlace}
-use Rattle.pages.specs.Calls.{getDef, given, readDef}
+use Rattle.pages.specs.Calls.{getDef, Given, given, readSome, readDef}
 use Rattle.pages.specs.declared.page.Lookup.{Lookup}
 use Rattle.pages.specs.declared.page.Lookup.the-variants.{Record, Absent, Overused}
 use Rattle.pages.specs.declared.page.Place.{Place}
@@ -21,10 +21,12 @@ use Rattle.pages.specs.declared.page.Place.the-variants.{At, Absent as N
 use Rattle.pages.specs.declared.memory.Loaded.{Loaded}
 use Rattle.pages.specs.declared.memory.Loaded.the-variants.{Value, Misaligned, Overused as OverusedLoad}
 use Rattle.pages.specs.declared.reader.Position.{Position}
+use Rattle.pages.specs.declared.reader.Read.{Read}
 use Rattle.pages.specs.declared.reader.Read.the-variants.{Moved, Overused as OverusedRead}
 use Rattle.pages.proofs.Laws.Runs.{row-ext, length-row, sets-join}
 use Rattle.pages.proofs.Laws.Numbers.{big-ext}
 use Rattle.pages.proofs.Laws.Lookups.{place-over, place-fine}
+use Rattle.pages.proofs.Laws.Places.{length-part, part-put, part-kept, sets-whole}
 
 -- byte k from a place on
 abbrev pub after : List ℕ → Place → ℕ → ℕ
@@ -135,3 +137,51 @@ module _ (p : List ℕ) (used : ℕ) (s : Position) (b : List ℕ) where
       → given (Moved n (record { address = a; count = s .count - n })) d ≡ readDef p used s b
   unfolding readDef
   read-some h e q t = rw (le-ltb _ _ h, q, t, e)
+
+-- ---- what copy_out leaves: a part of a list is read into, and put back
+
+abbrev kind : Read → ℕ
+kind (Moved n s) = 0
+kind OverusedRead = 1
+
+byte-over : (p : List ℕ) (used a : ℕ) → whole p < used → byteAt p used a ≡ 0
+unfolding byteAt lookup
+byte-over p used a h = rw (lt-ltb _ _ h)
+
+span-over : (n : ℕ) (p : List ℕ) (used a : ℕ) → whole p < used → span (byteAt p used) a n ≡ zeros n
+unfolding span
+span-over n p used a h = row-ext n _ _ a 0 (λ k l. byte-over p used _ h)
+
+module _ (p : List ℕ) (used a n : ℕ) (b : List ℕ) (long : length b ≡ n) {d : List ℕ} {r : Read} (e : given r d ≡ readDef p used (record { address = a; count = n }) b) where
+  read-whole : {i : ℕ} {s : Position} → r ≡ Moved i s → d ≡ span (byteAt p used) a n
+  unfolding readDef
+  read-whole t = go (ltb (whole p) used) e
+    where
+      go : (c : Bool) → given r d ≡ cond c (given OverusedRead b) (readSome (byteAt p used) (record { address = a; count = n }) b (min n (length b))) → d ≡ span (byteAt p used) a n
+      go true q = let z : _≡_ {A = ℕ} 0 1 = sym (ap kind t) ∙ ap (λ (g : Given). kind (g .answer)) q in absurd (omega arith)
+      go false q = ap (λ (g : Given). g .buf) q ∙ rw (long, min-eq-left (le-refl n)) (sets-whole b _ (length-span _ _ _ ∙ sym long))
+
+  read-refused : r ≡ OverusedRead → (d ≡ b) × (zeros n ≡ span (byteAt p used) a n)
+  unfolding readDef
+  read-refused t = go (ltb (whole p) used) refl e
+    where
+      go : (c : Bool) → ltb (whole p) used ≡ c → given r d ≡ cond c (given OverusedRead b) (readSome (byteAt p used) (record { address = a; count = n }) b (min n (length b))) → (d ≡ b) × (zeros n ≡ span (byteAt p used) a n)
+      go true h q = (ap (λ (g : Given). g .buf) q, sym (span-over n p used a (ltb-true _ _ h)))
+      go false h q = let z : _≡_ {A = ℕ} 1 0 = sym (ap kind t) ∙ ap (λ (g : Given). kind (g .answer)) q in absurd (omega arith)
+
+module _ (p : List ℕ) (used a : ℕ) (s : List ℕ) (at n : ℕ) (fits : at + n ≤ length s) {d : List ℕ} {r : Read} (e : given r d ≡ readDef p used (record { address = a; count = n }) (take (at + n - at) (drop at s))) where
+  same : at + n - at ≡ n
+  same = omega arith
+
+  pub copied : {i : ℕ} {t : Position} → r ≡ Moved i t → take at s ++ (d ++ drop (at + n - at) (drop at s)) ≡ sets s at (span (byteAt p used) a n)
+  copied q = rw (same, read-whole p used a n _ (length-part s at n fits) (rw same at e) q) (part-put s at n fits (span (byteAt p used) a n) (length-span _ _ _))
+
+  -- a refused read leaves the list as it was
+  kept : r ≡ OverusedRead → take at s ++ (d ++ drop (at + n - at) (drop at s)) ≡ s
+  kept q = rw (same, read-refused p used a n _ (length-part s at n fits) (rw same at e) q .0, part-kept s at n fits)
+
+  pub cleared : r ≡ OverusedRead → sets (take at s ++ (d ++ drop (at + n - at) (drop at s))) at (zeros n) ≡ sets s at (span (byteAt p used) a n)
+  cleared q = rw (kept q, read-refused p used a n _ (length-part s at n fits) (rw same at e) q .1)
+
+  pub clear-fits : r ≡ OverusedRead → at + n ≤ length (take at s ++ (d ++ drop (at + n - at) (drop at s)))
+  clear-fits q = rw (kept q) fits

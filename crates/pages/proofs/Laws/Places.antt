@@ -7,8 +7,8 @@ use native.Mathlib.Nat.{add-zero, zero-add, add-suc, suc-add, pow-suc}
 use native.Mathlib.Decide.{decLe}
 use native.Mathlib.Omega.{arith}
 use lib.Dec.{leb}
-use lib.ListN.{length, set, List·getD-append, drop-of-length-le}
-use lib.Seq.{sets, sets-eq, length-sets, getD-append-add, ext-getD}
+use lib.ListN.{length, set, drop, take, length-append, length-drop, take-append-drop, List·getD-append, drop-of-length-le}
+use lib.Seq.{sets, sets-eq, length-sets, length-take-le, drop-drop, getD-append-add, ext-getD}
 use borrow.Author.Tests.{le-leb, lt-leb, leb-true, leb-false}
 use Rattle.pages.specs.Bytes.{cell, row, big, bytesOf}
 use Rattle.pages.specs.Calls.{numberAt, putDef, copyDef}
@@ -108,6 +108,17 @@ pub sets-whole : (b xs : List ℕ) → length xs ≡ length b → sets b 0 xs �
 sets-whole b xs e =
     sets-eq xs b 0 (rw zero-add (omega arith))
     ∙ rw (drop-of-length-le b {i = 0 + length xs} (rw zero-add (omega arith))) (append-nil xs)
+
+-- a part of a list, which is lent and comes back
+module _ (s : List ℕ) (at n : ℕ) (fits : at + n ≤ length s) where
+  pub length-part : length (take n (drop at s)) ≡ n
+  length-part = length-take-le n (drop at s) (rw length-drop (omega arith))
+
+  pub part-put : (vs : List ℕ) → length vs ≡ n → take at s ++ (vs ++ drop n (drop at s)) ≡ sets s at vs
+  part-put vs e = rw (drop-drop, ← e) (sym (append-assoc (take at s) vs (drop (at + length vs) s)) ∙ sym (sets-eq vs s at (rw e fits)))
+
+  pub part-kept : take at s ++ (take n (drop at s) ++ drop n (drop at s)) ≡ s
+  part-kept = rw (take-append-drop, take-append-drop)
 
 -- ---- rows
 
