@@ -128,7 +128,7 @@ impl Coverage {
 }
 
 /// A word for each of the 224 codes: 61 opcodes of their own, 64 SPECIAL, 64 SPECIAL2 and 32 REGIMM.
-fn every_code() -> impl Iterator<Item = u32> {
+pub fn every_code() -> impl Iterator<Item = u32> {
     let opcodes = (0..64).filter(|opcode| ![SPECIAL, SPECIAL2, REGIMM].contains(opcode)).map(|opcode| opcode << 26);
     let special = (0..64).flat_map(|funct| [SPECIAL << 26 | funct, SPECIAL2 << 26 | funct]);
     opcodes.chain(special).chain((0..32).map(|field| REGIMM << 26 | field << 16))

@@ -7,6 +7,7 @@
 
 pub mod answer;
 pub mod cases;
+pub mod checker;
 pub mod compare;
 pub mod coverage;
 pub mod domain;
