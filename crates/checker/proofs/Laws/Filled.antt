@@ -1,33 +1,29 @@
 -- Every record that the machine fills is accepted.
 use mathlib.Core.Path.{_≡_, refl, sym, ap, subst, _∙_}
-use mathlib.Core.Bool.{Bool, true, false, _&&_, not}
+use mathlib.Core.Bool.{Bool, true, false, not}
 use mathlib.Core.List.{List}
-use Prim.Native.Nat.{ℕ, _+_, _%_, _^_, _<_}
+use Prim.Native.Nat.{ℕ, _+_, _^_, _≤_, _<_, min}
 use native.Mathlib.Nat.{mod-eq-of-lt}
 use native.Mathlib.Omega.{arith}
-use lib.Dec.{eqb}
 use lib.ListN.{length}
 use borrow.Author.Tests.{eq-eqb}
 use Rattle.pages.specs.Bytes.{cell, row, big}
 use Rattle.pages.specs.Memory.{Memory}
-use Rattle.pages.specs.Pages.{byteAt}
 use Rattle.pages.proofs.Laws.Places.{big-bound}
 use Rattle.pages.proofs.Laws.Meaning.{byte-small}
-use Rattle.interpreter.specs.declared.effect.Refusal.{Refusal}
 use Rattle.interpreter.specs.declared.effect.Touch.{Touch}
 use Rattle.interpreter.specs.declared.effect.Touch.the-variants.{Nothing, Eight}
 use Rattle.interpreter.specs.declared.state.State.{State}
-use Rattle.interpreter.specs.declared.step.Answer.{Answer}
-use Rattle.interpreter.specs.declared.step.Answer.the-variants.{Refused as RefusedStep}
-use Rattle.interpreter.specs.Machine.{Machine, cpuOf, stateOf}
+use Rattle.interpreter.specs.Machine.{Machine, cpuOf, stateOf, roomOf, bad}
 use Rattle.interpreter.specs.Plan.{eightAt}
 use Rattle.interpreter.specs.Layout.{formedAt, Fits}
 use Rattle.interpreter.specs.Step.{stepDef}
 use Rattle.interpreter.specs.Records.{recordOf}
 use Rattle.interpreter.specs.Recording.{wide, touched, memoryOf, stateIn, wordIn as wordAt, touchIn as touchAt, recordFrom, recording, recordedDef}
 use Rattle.interpreter.specs.Ideal.{Ideal, meant, Outcome, idealStep, Follows}
-use Rattle.interpreter.specs.Runs.{isRefused, works}
+use Rattle.interpreter.specs.Runs.{isRefused}
 use Rattle.interpreter.proofs.Laws.Records.{length-record, record-old, record-new, record-word, record-spare, record-touch, touch-none, touch-address, touch-old, touch-new, record-bytes}
+use Rattle.interpreter.proofs.Laws.Kept.{formed}
 use Rattle.interpreter.proofs.Laws.Refine.{refines-unless}
 use Rattle.interpreter.proofs.Laws.Runs.{step-works}
 use Rattle.interpreter.proofs.Laws.Sizes.{step-bytes, step-fits}
@@ -35,7 +31,7 @@ use Rattle.interpreter.proofs.Laws.Narrow.{touched-aligned}
 use Rattle.checker.specs.declared.verdict.Verdict.the-variants.{Accepted}
 use Rattle.checker.specs.Records.{oldIn, newIn, wordIn, addressIn, oldEight, newEight, touchIn}
 use Rattle.checker.specs.Check.{wrongLength, malformed, exitedIn, wideIn, placed, checkDef}
-use Rattle.checker.specs.Statement.{Bytes, Form, Has, Holds, stepFrom, Gives}
+use Rattle.checker.specs.Statement.{Bytes, Form, Has, Holds, stepFrom, Gives, Typed}
 use Rattle.checker.proofs.Laws.Same.{no-true, both, off}
 use Rattle.checker.proofs.Laws.Theorem.{refused-not, eight-small, has-eight, steps-accepted}
 
@@ -64,7 +60,41 @@ module _ (s n : State) (w : ℕ) where
 
 -- ---- the record of a step
 
-module _ (x d : List ℕ) (m : Machine) (pages : Bytes (cell (m .pages))) (fits : Fits (stateIn m)) (counts : stepDef x d m .counts ≡ true)
+bad-refused : (x d : List ℕ) (m : Machine) → bad m ≡ true → isRefused (stepDef x d m .answer) ≡ true
+unfolding stepDef
+bad-refused x d m e = rw e
+
+good : (x d : List ℕ) (m : Machine) → isRefused (stepDef x d m .answer) ≡ false → bad m ≡ false
+good x d m e = go (bad m) refl
+  where
+    go : (b : Bool) → bad m ≡ b → b ≡ false
+    go true y = no-true (sym (bad-refused x d m y) ∙ e)
+    go false y = refl
+
+-- where 1 does not apply, rules and hint length are in bounds too
+typed-fits : (m : Machine) → Typed (stateIn m) → bad m ≡ false → Fits (stateIn m)
+unfolding roomOf stateOf
+typed-fits m t e =
+    let f = formed m e in
+    let h : m .cpu .hint ≤ min (length (m .hint)) 65536 = f .hint in
+    record {
+      regs = t .regs;
+      values = t .values;
+      pc = t .pc;
+      next = t .next;
+      hi = t .hi;
+      lo = t .lo;
+      heap = t .heap;
+      step = t .step;
+      offset = t .offset;
+      hint = omega arith;
+      key = t .key;
+      bytes = t .bytes;
+      code = t .code;
+      rules = f .rules;
+    }
+
+module _ (x d : List ℕ) (m : Machine) (pages : Bytes (cell (m .pages))) (typed : Typed (stateIn m)) (counts : stepDef x d m .counts ≡ true)
     (narrow : wide (m .cpu) (m .regs) (wordAt m) ≡ false) where
   abbrev m′ : Machine
   m′ = stepDef x d m .machine
@@ -83,6 +113,9 @@ module _ (x d : List ℕ) (m : Machine) (pages : Bytes (cell (m .pages))) (fits 
 
   running : m .cpu .exited ≡ false
   running = off _ (both {a = not (isRefused (stepDef x d m .answer))} {b = not (m .cpu .exited)} (sym (step-works x d m) ∙ counts) .1)
+
+  fits : Fits (stateIn m)
+  fits = typed-fits m typed (good x d m unrefused)
 
   fits′ : Fits (stateIn m′)
   fits′ = step-fits x d m pages fits

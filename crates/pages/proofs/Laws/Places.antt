@@ -7,7 +7,7 @@ use native.Mathlib.Nat.{add-zero, zero-add, add-suc, suc-add, pow-suc}
 use native.Mathlib.Decide.{decLe}
 use native.Mathlib.Omega.{arith}
 use lib.Dec.{leb}
-use lib.ListN.{length, set, drop, take, length-append, length-drop, take-append-drop, List·getD-append, drop-of-length-le}
+use lib.ListN.{length, set, drop, take, length-drop, take-append-drop, List·getD-append, drop-of-length-le}
 use lib.Seq.{sets, sets-eq, length-sets, length-take-le, drop-drop, getD-append-add, ext-getD}
 use borrow.Author.Tests.{le-leb, lt-leb, leb-true, leb-false}
 use Rattle.pages.specs.Bytes.{cell, row, big, bytesOf}
