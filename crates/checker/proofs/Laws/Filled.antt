@@ -22,6 +22,7 @@ use Rattle.interpreter.specs.Records.{recordOf}
 use Rattle.interpreter.specs.Recording.{wide, touched, memoryOf, stateIn, wordIn as wordAt, touchIn as touchAt, recordFrom, recording, recordedDef}
 use Rattle.interpreter.specs.Ideal.{Ideal, meant, Outcome, idealStep, Follows}
 use Rattle.interpreter.specs.Runs.{isRefused}
+use Rattle.interpreter.proofs.Laws.Tests.{no-true}
 use Rattle.interpreter.proofs.Laws.Records.{length-record, record-old, record-new, record-word, record-spare, record-touch, touch-none, touch-address, touch-old, touch-new, record-bytes}
 use Rattle.interpreter.proofs.Laws.Kept.{formed}
 use Rattle.interpreter.proofs.Laws.Refine.{refines-unless}
@@ -32,7 +33,7 @@ use Rattle.checker.specs.declared.verdict.Verdict.the-variants.{Accepted
 use Rattle.checker.specs.Records.{oldIn, newIn, wordIn, addressIn, oldEight, newEight, touchIn}
 use Rattle.checker.specs.Check.{wrongLength, malformed, exitedIn, wideIn, placed, checkDef}
 use Rattle.checker.specs.Statement.{Bytes, Form, Has, Holds, stepFrom, Gives, Typed}
-use Rattle.checker.proofs.Laws.Same.{no-true, both, off}
+use Rattle.checker.proofs.Laws.Same.{both, off}
 use Rattle.checker.proofs.Laws.Theorem.{refused-not, eight-small, has-eight, steps-accepted}
 
 -- ---- the touched eight bytes in a record

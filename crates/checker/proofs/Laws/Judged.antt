@@ -25,6 +25,7 @@ use Rattle.interpreter.specs.Plan.{Deed, Plan, does, eightAt}
 use Rattle.interpreter.specs.Layout.{formedAt, decodeAt, valid, malformed as noState, decodedAt}
 use Rattle.interpreter.specs.Ideal.{remember}
 use Rattle.interpreter.specs.Shown.{Shown, shown, madeBy, unlessRefused, madeWith, stepShown}
+use Rattle.interpreter.proofs.Laws.Tests.{no-true}
 use Rattle.interpreter.proofs.Laws.Shown.{unrefused}
 use Rattle.interpreter.proofs.Laws.Narrow.{Narrow, Found, found, shown-found}
 use Rattle.checker.specs.declared.verdict.Fault.the-variants.{Length, Form, AlreadyExited, StepRefused, WideStep, Touch as TouchFault, Result}
@@ -33,7 +34,7 @@ use Rattle.checker.specs.declared.verdict.Verdict.the-variants.{Accepted
 use Rattle.checker.specs.Records.{oldIn, newIn, wordIn, addressIn, oldEight, newEight, touchIn, memoryIn, effectIn, planIn}
 use Rattle.checker.specs.Check.{wrongLength, malformed, exitedIn, refuses, refusedIn, wideIn, placed, agrees, misplaced, sameState, gives, differs, applies, firstOf, checkDef}
 use Rattle.checker.specs.Parts.{stepJudged, resultJudged}
-use Rattle.checker.proofs.Laws.Same.{no-true, on, off}
+use Rattle.checker.proofs.Laws.Same.{on, off}
 
 cond-not : (b : Bool) {A : Type 0} (x y : A) → cond b x y ≡ cond (not b) y x
 cond-not true x y = refl
@@ -114,6 +115,11 @@ data Said (r : List ℕ) (m : Made) (l j : List ℕ) : Type 0 where
   steps : refusedIn r ≡ false → wideIn r ≡ false → (d : Deed) → planIn r ≡ does d → m ≡ Stepped (d .cpu) (touchIn r) (eightAt (remember (memoryIn r) (d .store)) (touchIn r))
       → l ≡ d .regs → j ≡ d .key → Said r m l j
 
+pub goes-on : (e : Effect) → refuses e ≡ false → unrefused e ≡ true
+goes-on (RefusedBy n) q = no-true q
+goes-on CallBy q = refl
+goes-on (Done c) q = refl
+
 module _ (r : List ℕ) where
   step-made : stepShown (cpuOf (oldIn r)) (oldIn r .regs) (oldIn r .key) (wordIn r) (oldEight r)
       ≡ unlessRefused (oldIn r .regs) (oldIn r .key) (effectIn r) (cond (wideIn r) (shown Wide (oldIn r .regs) (oldIn r .key)) (madeBy (oldIn r .regs) (oldIn r .key) (memoryIn r) (touchIn r) (planIn r)))
@@ -122,12 +128,7 @@ module _ (r : List ℕ) where
 
   pub narrow-found : refusedIn r ≡ false → wideIn r ≡ false → Found (Narrow (oldIn r .regs) (oldIn r .key) (touchIn r)) (planIn r)
   unfolding refusedIn wideIn planIn touchIn effectIn
-  narrow-found e h = shown-found (cpuOf (oldIn r)) (oldIn r .regs) (wordIn r) h (oldIn r .key) (memoryIn r) (go (effectIn r) e)
-    where
-      go : (f : Effect) → refuses f ≡ false → unrefused f ≡ true
-      go (RefusedBy n) q = no-true q
-      go CallBy q = refl
-      go (Done c) q = refl
+  narrow-found e h = shown-found (cpuOf (oldIn r)) (oldIn r .regs) (wordIn r) h (oldIn r .key) (memoryIn r) (goes-on (effectIn r) e)
 
   module _ (m : Made) (l j : List ℕ) where
     abbrev does-as : Effect → Bool → Plan → Shown

@@ -15,13 +15,11 @@ use Rattle.interpreter.specs.declared.state.Cpu.{Cpu}
 use Rattle.interpreter.specs.declared.state.State.{State}
 use Rattle.interpreter.specs.Machine.{reg, cpuOf, stateOf}
 use Rattle.interpreter.specs.Inputs.{same}
+use Rattle.interpreter.proofs.Laws.Tests.{no-true}
 use Rattle.interpreter.proofs.Laws.Inputs.{same-more, same-not}
 use Rattle.checker.specs.Check.{sameNumbers, sameState}
 
 -- ---- tests
-
-pub no-true : {A : Type 0} → true ≡ false → A
-no-true e = let z : _≡_ {A = ℕ} 0 1 = cc in absurd (omega arith)
 
 pub both : {a b : Bool} → (a && b) ≡ true → (a ≡ true) × (b ≡ true)
 both {a = true} {b = b} e = (refl, e)

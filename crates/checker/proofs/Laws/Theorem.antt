@@ -27,6 +27,7 @@ use Rattle.interpreter.specs.Layout.{eight, decodeAt}
 use Rattle.interpreter.specs.Ideal.{Ideal, ideal, idealView, counting, Outcome, follow, remember}
 use Rattle.interpreter.specs.Runs.{isRefused}
 use Rattle.interpreter.specs.Shown.{shownAt, effectShown}
+use Rattle.interpreter.proofs.Laws.Tests.{no-true}
 use Rattle.interpreter.proofs.Laws.Codec.{length-numbers}
 use Rattle.interpreter.proofs.Laws.Recorder.{touched-even}
 use Rattle.interpreter.proofs.Laws.Shown.{write-back, unrefused, pc-aligned}
@@ -38,8 +39,8 @@ use Rattle.checker.specs.declared.verdict.Verdict.the-variants.{Accepted
 use Rattle.checker.specs.Records.{oldIn, newIn, wordIn, addressIn, oldEight, newEight, touchIn, memoryIn, effectIn, planIn}
 use Rattle.checker.specs.Check.{exitedIn, refuses, refusedIn, wideIn, placed, agrees, misplaced, sameState, gives, differs, applies, firstOf, checkDef}
 use Rattle.checker.specs.Statement.{Bytes, Form, Has, Holds, stepFrom, Gives, Outside}
-use Rattle.checker.proofs.Laws.Same.{no-true, both, on, state-is, is-state}
-use Rattle.checker.proofs.Laws.Judged.{narrow-found}
+use Rattle.checker.proofs.Laws.Same.{both, on, state-is, is-state}
+use Rattle.checker.proofs.Laws.Judged.{goes-on, narrow-found}
 
 -- ---- 1. the first that applies
 
@@ -252,12 +253,8 @@ agreed r m (Eight a) pc b c z i h = go (eqb (pc / 8 * 8) a) refl
 -- an unrefused instruction stands at an aligned pc
 pc-even : (r : List ℕ) → refusedIn r ≡ false → oldIn r .pc % 4 ≡ 0
 unfolding refusedIn effectIn effectShown insOf counted cpuOf
-pc-even r e = pc-aligned (insOf (counted (cpuOf (oldIn r))) (oldIn r .regs) (wordIn r) (eightAt (memoryIn r) (touchOf (oldIn r .regs) (wordIn r)))) refl (go (effectIn r) e)
-  where
-    go : (f : Effect) → refuses f ≡ false → unrefused f ≡ true
-    go (RefusedBy n) q = no-true q
-    go CallBy q = refl
-    go (Done c) q = refl
+pc-even r e =
+    pc-aligned (insOf (counted (cpuOf (oldIn r))) (oldIn r .regs) (wordIn r) (eightAt (memoryIn r) (touchOf (oldIn r .regs) (wordIn r)))) refl (goes-on (effectIn r) e)
 
 new-zero : (r : List ℕ) (k : Memory) (t : Touch) → placed r t ≡ true → Has k t (newEight r) → eightAt k t ≡ newEight r
 new-zero r k Nothing p h = sym (eqb-true (newEight r) 0 (both {a = eqb (addressIn r) 0 && eqb (oldEight r) 0} {b = eqb (newEight r) 0} p .1))
@@ -272,9 +269,9 @@ module _ (r : List ℕ) (b : Bytes (cell r)) (f : Form r) (m : Memory) (h : Hold
       (step-shown r m h (f .running) (f .narrow) x d g
       ∙ ap (follow (counting (ideal (cpuOf (oldIn r)) (oldIn r .regs) (oldIn r .key) m g))) (shown-stops (cpuOf (oldIn r)) (oldIn r .regs) (wordIn r) (f .narrow) (oldIn r .key) (memoryIn r) e)))
 
-  goes-on : refusedIn r ≡ false
+  carried-out : refusedIn r ≡ false
   unfolding refusedIn
-  goes-on = go (effectIn r) refl
+  carried-out = go (effectIn r) refl
     where
       go : (e : Effect) → effectIn r ≡ e → refuses e ≡ false
       go (RefusedBy n) q = absurd (stops-not n q)
@@ -297,10 +294,10 @@ module _ (r : List ℕ) (b : Bytes (cell r)) (f : Form r) (m : Memory) (h : Hold
         length = f .long;
         form = f .formed;
         running = f .running;
-        unrefused = goes-on;
+        unrefused = carried-out;
         narrow = f .narrow;
-        touch = rw (f .touch, agreed r m (touchIn r) (oldIn r .pc) b (h .bytes) (pc-even r goes-on) (h .instruction) (h .eight));
-        result = rw (given (narrow-found r goes-on (f .narrow)));
+        touch = rw (f .touch, agreed r m (touchIn r) (oldIn r .pc) b (h .bytes) (pc-even r carried-out) (h .instruction) (h .eight));
+        result = rw (given (narrow-found r carried-out (f .narrow)));
       })
 
 -- ---- 2, from the record: a memory that holds what it shows
