@@ -1,5 +1,6 @@
 # For the commands beside this file: finds places, installs what is missing, builds. They come with $here set.
-# A shell's names are shared by all of it: what is set here is here, target, committed, binaries, driver, as_root, HOWITZER_SRC.
+# A shell's names are shared by all of it: what is set here is here, target, committed, binaries, driver, programs, as_root,
+# HOWITZER_SRC, ROCCHIVANDA_LIB, and source, level in a loop.
 
 set -eu
 
@@ -7,6 +8,7 @@ target=$here/target
 committed=$here/../crates/replay/data
 binaries=$target/rust/release
 driver=$target/driver
+programs=$target/programs
 
 say() {
     echo "compare: $*" >&2
@@ -38,13 +40,13 @@ find_sources() {
     say "the Rust files have the bytes that rust/howitzer/sources.sha256 lists"
 }
 
-# The unchanged Rust with its stand-ins, and the judges: release profile, overflow checks off.
+# The unchanged Rust with its stand-ins, and the judges: release profile, overflow checks off. Takes options for cargo.
 build_rust() {
     find_sources
     need cc gcc
     need cargo cargo
     say "building the Rust and the judges"
-    CARGO_TARGET_DIR=$target/rust cargo build --release --offline --quiet --manifest-path "$here/rust/Cargo.toml"
+    CARGO_TARGET_DIR=$target/rust cargo build --release --offline --quiet --manifest-path "$here/rust/Cargo.toml" "$@"
 }
 
 # The program that runs single instructions under QEMU.
@@ -62,4 +64,35 @@ make_lists() {
     mkdir -p "$1"
     "$binaries/rules0" "$1/rules0.vec"
     "$binaries/rules1" "$driver" "$1/rules1.vec"
+}
+
+# Our machine and record checker as a static library; where ROCCHIVANDA_LIB names a folder, the one there is taken.
+build_library() {
+    if [ -z "${ROCCHIVANDA_LIB:-}" ]; then
+        say "building our static library"
+        (cd "$here/.." && rt staticlib rocchivanda >&2)
+        ROCCHIVANDA_LIB=$here/../target/staticlib
+    fi
+    ROCCHIVANDA_LIB=$(cd "$ROCCHIVANDA_LIB" && pwd)
+    export ROCCHIVANDA_LIB
+}
+
+# The C programs, at each level: no instruction outside isa.rs, no floating point, no library, one fixed place.
+build_programs() {
+    need qemu-mips64 qemu-user
+    need mips64-linux-gnuabi64-as binutils-mips64-linux-gnuabi64
+    need mips64-linux-gnuabi64-gcc gcc-mips64-linux-gnuabi64
+    say "compiling the programs"
+    mkdir -p "$programs"
+    for source in "$here"/programs/*.c; do
+        for level in O1 O2 O3 Os; do
+            mips64-linux-gnuabi64-gcc "-$level" -Wall -Wextra -Wno-unused-function \
+                -mabi=64 -march=mips64 -EB -mno-abicalls -fno-pic -msoft-float -msym32 -G0 \
+                -mno-check-zero-division -mno-branch-likely -mno-imadd \
+                -ffreestanding -fno-builtin -fno-stack-protector -fno-asynchronous-unwind-tables \
+                -fno-tree-loop-distribute-patterns -nostdlib -static \
+                -Wl,-T,"$here/programs/program.ld" -Wl,-z,max-page-size=4096 -Wl,--build-id=none \
+                -o "$programs/$(basename "$source" .c)-$level" "$here/programs/start.s" "$source"
+        done
+    done
 }

@@ -16,6 +16,9 @@ pub mod encode;
 pub mod examples;
 pub mod lent;
 pub mod machine;
+#[cfg(feature = "library")]
+pub mod ours;
+pub mod programs;
 pub mod qemu;
 pub mod records;
 pub mod rng;
