@@ -49,6 +49,27 @@ build_rust() {
     CARGO_TARGET_DIR=$target/rust cargo build --release --offline --quiet --manifest-path "$here/rust/Cargo.toml" "$@"
 }
 
+# Our machine as a static library, and the programs that call it. The library is proved and written here unless
+# ROCCHIVANDA_LIB names a folder that has it.
+build_ours() {
+    if [ "$(uname -m)" != x86_64 ]; then
+        say "the library of our machine links only into programs for x86-64"
+        exit 1
+    fi
+    if [ -z "${ROCCHIVANDA_LIB:-}" ]; then
+        if ! command -v rt >/dev/null 2>&1; then
+            say "no rt on the path: put the kit's bin there, or set ROCCHIVANDA_LIB to a folder with librocchivanda.a"
+            exit 1
+        fi
+        say "proving our machine and writing its static library"
+        (cd "$here/.." && rt staticlib rocchivanda) >&2
+        ROCCHIVANDA_LIB=$here/../target/staticlib
+    fi
+    ROCCHIVANDA_LIB=$(cd "$ROCCHIVANDA_LIB" && pwd)
+    export ROCCHIVANDA_LIB
+    build_rust --features judge/ours
+}
+
 # The program that runs single instructions under QEMU.
 build_driver() {
     need qemu-mips64 qemu-user
@@ -64,17 +85,6 @@ make_lists() {
     mkdir -p "$1"
     "$binaries/rules0" "$1/rules0.vec"
     "$binaries/rules1" "$driver" "$1/rules1.vec"
-}
-
-# Our machine and record checker as a static library; where ROCCHIVANDA_LIB names a folder, the one there is taken.
-build_library() {
-    if [ -z "${ROCCHIVANDA_LIB:-}" ]; then
-        say "building our static library"
-        (cd "$here/.." && rt staticlib rocchivanda >&2)
-        ROCCHIVANDA_LIB=$here/../target/staticlib
-    fi
-    ROCCHIVANDA_LIB=$(cd "$ROCCHIVANDA_LIB" && pwd)
-    export ROCCHIVANDA_LIB
 }
 
 # The C programs, at each level: no instruction outside isa.rs, no floating point, no library, one fixed place.

@@ -1,10 +1,10 @@
-//! With the feature `library` our machine's static library is linked, from the folder that ROCCHIVANDA_LIB names.
+//! With the feature `ours`: links the static library of our machine, out of the folder that ROCCHIVANDA_LIB names.
 
 use std::{env, path::Path};
 
 fn main() {
     println!("cargo:rerun-if-env-changed=ROCCHIVANDA_LIB");
-    if env::var_os("CARGO_FEATURE_LIBRARY").is_none() {
+    if env::var_os("CARGO_FEATURE_OURS").is_none() {
         return;
     }
     let folder = env::var("ROCCHIVANDA_LIB").expect("ROCCHIVANDA_LIB names the folder of librocchivanda.a");

@@ -39,6 +39,23 @@ impl fmt::Display for Why {
     }
 }
 
+impl Why {
+    /// Document 01's refusal where it has one: the Rust can't vouch for it.
+    pub fn refusal(self) -> Option<u32> {
+        match self {
+            Why::Rules | Why::ZeroKey | Why::PastTheEnd | Why::LongOutput => None,
+            Why::Refusal1 => Some(1),
+            Why::PanicLowWord => Some(5),
+            Why::PanicLeast => Some(6),
+            Why::Refusal8 => Some(8),
+            Why::Refusal9 => Some(9),
+            Why::Fetching => Some(10),
+            Why::PanicOffset => Some(11),
+            Why::PanicHint => Some(12),
+        }
+    }
+}
+
 /// What the machine before the step shows. The rest of the domain is seen while the Rust runs.
 pub fn outside(m: &Machine) -> Option<Why> {
     if m.state[RULES] != 0 {

@@ -1,7 +1,12 @@
-//! Our machine and record checker, through the C interface of their static library.
+//! Our machine and record checker, called through the C interface of their static library, which
+//! `rt staticlib rocchivanda` writes.
 
 use crate::{answer::Answer, checker::record::STEP_RECORD, machine::Machine};
 
+/// The interface that the calls below are written for.
+const VERSION: u64 = 1;
+
+// A slice is handed over as its address and its length.
 #[link(name = "rocchivanda", kind = "static")]
 extern "C" {
     fn rocchivanda_version() -> u64;
@@ -59,30 +64,48 @@ extern "C" {
     ) -> u64;
 }
 
+/// What a call gives beside the machine: the answer, and how many steps count.
+#[derive(Clone, Copy, Debug, Eq, PartialEq)]
+pub struct Called {
+    pub answer: Answer,
+    pub count: u64,
+}
+
+/// Stops unless the library's interface is the one that is called here.
 pub fn version() -> u64 {
-    unsafe { rocchivanda_version() }
+    // Safe: it takes nothing and touches nothing.
+    let version = unsafe { rocchivanda_version() };
+    assert!(version == VERSION, "the library's interface is {version}, not {VERSION}");
+    version
 }
 
 /// 0 for an accepted record, or the number of the refusal.
 pub fn check(record: &[u8]) -> u64 {
+    // Safe: the pointer comes with the length of the slice that it is taken from. So it is below, where none overlap.
     unsafe { rocchivanda_check(record.as_ptr(), record.len()) }
 }
 
-/// Used page records going in and coming out, the answer's two values, and how many steps were counted.
-type Told = [u64; 4];
-
-/// Puts the used count where it belongs, and the result and its values together.
-fn finish(m: &mut Machine, kind: u64, told: Told) -> (Answer, u64) {
-    m.used = told[0] as usize;
-    let small = |value: u64| u32::try_from(value).ok();
-    let answer = u8::try_from(kind).ok().zip(small(told[1])).zip(small(told[2]));
-    let answer = answer.and_then(|((kind, first), second)| Answer::from_numbers(kind, first, second));
-    (answer.unwrap_or_else(|| panic!("no answer of document 01: {kind}, {told:?}")), told[3])
+/// The answer's entries going in. What a call does not write would be no answer.
+fn entries(m: &Machine) -> [u64; 4] {
+    [m.used as u64, !0, !0, !0]
 }
 
-/// The answer, and 1 if the step counts.
-pub fn step(m: &mut Machine) -> (Answer, u64) {
-    let mut told = [m.used as u64, 0, 0, 0];
+/// Reads the entries; values that stand for no answer are a fault of the library and stop the program.
+fn called(m: &mut Machine, kind: u64, [used, first, second, count]: [u64; 4]) -> Called {
+    m.used = used as usize;
+    let numbers = (u8::try_from(kind), u32::try_from(first), u32::try_from(second));
+    let answer = match numbers {
+        (Ok(kind), Ok(first), Ok(second)) => Answer::from_numbers(kind, first, second),
+        _ => None,
+    };
+    match answer {
+        Some(answer) => Called { answer, count },
+        None => panic!("our machine gives {kind} with {first} and {second}, which is no answer"),
+    }
+}
+
+pub fn step(m: &mut Machine) -> Called {
+    let mut entries = entries(m);
     let kind = unsafe {
         rocchivanda_step(
             m.state.as_mut_ptr(),
@@ -97,16 +120,16 @@ pub fn step(m: &mut Machine) -> (Answer, u64) {
             m.index.len(),
             m.data.as_ptr(),
             m.data.len(),
-            told.as_mut_ptr(),
-            told.len(),
+            entries.as_mut_ptr(),
+            entries.len(),
         )
     };
-    finish(m, kind, told)
+    called(m, kind, entries)
 }
 
 /// The same with a record of the step, where it is one that can be recorded.
-pub fn step_recorded(m: &mut Machine, record: &mut [u8; STEP_RECORD]) -> (Answer, u64) {
-    let mut told = [m.used as u64, 0, 0, 0];
+pub fn step_recorded(m: &mut Machine, record: &mut [u8; STEP_RECORD]) -> Called {
+    let mut entries = entries(m);
     let kind = unsafe {
         rocchivanda_step_recorded(
             m.state.as_mut_ptr(),
@@ -123,16 +146,15 @@ pub fn step_recorded(m: &mut Machine, record: &mut [u8; STEP_RECORD]) -> (Answer
             m.data.len(),
             record.as_mut_ptr(),
             record.len(),
-            told.as_mut_ptr(),
-            told.len(),
+            entries.as_mut_ptr(),
+            entries.len(),
         )
     };
-    finish(m, kind, told)
+    called(m, kind, entries)
 }
 
-/// The last answer, and how many steps were counted.
-pub fn run(m: &mut Machine, budget: u64) -> (Answer, u64) {
-    let mut told = [m.used as u64, 0, 0, 0];
+pub fn run(m: &mut Machine, budget: u64) -> Called {
+    let mut entries = entries(m);
     let kind = unsafe {
         rocchivanda_run(
             m.state.as_mut_ptr(),
@@ -148,9 +170,9 @@ pub fn run(m: &mut Machine, budget: u64) -> (Answer, u64) {
             m.data.as_ptr(),
             m.data.len(),
             budget,
-            told.as_mut_ptr(),
-            told.len(),
+            entries.as_mut_ptr(),
+            entries.len(),
         )
     };
-    finish(m, kind, told)
+    called(m, kind, entries)
 }

@@ -46,6 +46,13 @@ impl Rust {
 
     /// Steps once. Inside the compared domain `after` is then the machine after the step.
     pub fn step(&mut self, before: &Machine, after: &mut Machine) -> Verdict {
+        self.vm.proof_meta.last_preimage_key = [0; 32];
+        self.vm.proof_meta.last_preimage.clear();
+        self.step_on(before, after)
+    }
+
+    /// The same for a machine that goes on, with the same index and data: the Rust keeps its cache of inputs.
+    pub fn step_on(&mut self, before: &Machine, after: &mut Machine) -> Verdict {
         if let Some(why) = outside(before) {
             return Verdict::Outside(why);
         }
@@ -63,10 +70,8 @@ impl Rust {
         verdict
     }
 
-    /// Everything that a step can see is as fresh as in a new machine, the cache of inputs too.
+    /// Everything that a step can see is as fresh as in a new machine, but for the cache of inputs.
     fn load(&mut self, m: &Machine) {
-        self.vm.proof_meta.last_preimage_key = [0; 32];
-        self.vm.proof_meta.last_preimage.clear();
         let oracle = self.vm.oracle();
         oracle.index.clone_from(&m.index);
         oracle.data.clone_from(&m.data);

@@ -41,7 +41,7 @@ impl Writer {
         let start = self.bytes.len();
         head(&mut self.bytes, self.count, case, answer, after);
         let (before, fill) = (&case.machine, case.fill);
-        check_limits(before);
+        assert!(fits(before), "a vector keeps to the limits");
         let out = &mut self.bytes;
         patches(out, |_| 0, &before.state);
         for buffer in [&before.pages, &before.hint, &before.output, &before.index, &before.data] {
@@ -78,9 +78,10 @@ fn head(out: &mut Vec<u8>, ordinal: u32, case: &Case, answer: Answer, after: &Ma
     }
 }
 
-fn check_limits(m: &Machine) {
-    assert!(m.pages.len() <= MOST_PAGES && m.hint.len() <= MOST_HINT && m.output.len() <= MOST_OUTPUT);
-    assert!(m.index.len() <= MOST_INDEX && m.data.len() <= MOST_DATA);
+/// Whether a machine keeps to the limits of the form.
+pub fn fits(m: &Machine) -> bool {
+    let lent = m.pages.len() <= MOST_PAGES && m.hint.len() <= MOST_HINT && m.output.len() <= MOST_OUTPUT;
+    lent && m.index.len() <= MOST_INDEX && m.data.len() <= MOST_DATA
 }
 
 /// Appends the patches that turn `base` into `bytes`. A patch costs six bytes beside its own, so two that stand

@@ -1,9 +1,9 @@
 //! Compiled programs, run to their end: under rules 0 step by step beside the unchanged Rust, under rules 1 beside QEMU,
-//! and the records of their steps. Without the feature `library` only the two judges run them.
+//! and the records of their steps. Without the feature `ours` only the two judges run them.
 //!
 //!     programs SOURCES EXECUTABLES [SAMPLE]
 
-#[cfg(feature = "library")]
+#[cfg(feature = "ours")]
 use judge::{
     compare::difference,
     ours::version,
@@ -72,10 +72,10 @@ impl Different {
 }
 
 /// The judges alone.
-#[cfg(not(feature = "library"))]
+#[cfg(not(feature = "ours"))]
 struct Runs;
 
-#[cfg(not(feature = "library"))]
+#[cfg(not(feature = "ours"))]
 impl Runs {
     const HEAD: &'static str = "     steps of the Rust  outcomes of the Rust and of QEMU";
 
@@ -92,14 +92,14 @@ impl Runs {
 }
 
 /// Our machine beside the judges.
-#[cfg(feature = "library")]
+#[cfg(feature = "ours")]
 struct Runs {
     /// Under rules 0 and rules 1.
     recorders: [Recorder; 2],
     steps: [u64; 2],
 }
 
-#[cfg(feature = "library")]
+#[cfg(feature = "ours")]
 impl Runs {
     const HEAD: &'static str = " rules 0: steps  each as the Rust   rules 1: steps  outcome as QEMU's   rules 0 and 1";
 

@@ -1,14 +1,16 @@
 //! Cases: machines before a step. Each module makes those of one kind, either along a fixed enumeration or by chance.
 
 pub mod alu;
-mod calls;
+pub mod calls;
 pub mod fixed;
 mod hints;
 mod input;
 pub mod jumps;
 pub mod loads;
 mod other;
+pub mod program;
 pub mod random;
+pub mod texts;
 mod writes;
 
 use crate::machine::Machine;

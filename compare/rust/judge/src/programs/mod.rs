@@ -6,7 +6,7 @@ pub mod elf;
 pub mod in_the_rust;
 pub mod list;
 pub mod load;
-#[cfg(feature = "library")]
+#[cfg(feature = "ours")]
 pub mod ours;
 pub mod outcome;
 pub mod qemu;

@@ -35,8 +35,8 @@ impl Beside {
 
     /// Makes the step, and stops unless the answer and every byte are the same.
     pub fn follow(&mut self, other: &Machine, expected: Answer) {
-        let (answer, counted) = ours::step(&mut self.m);
-        assert_eq!((answer, counted), (expected, 1), "the answer at step {}", self.steps);
+        let called = ours::step(&mut self.m);
+        assert_eq!((called.answer, called.count), (expected, 1), "the answer at step {}", self.steps);
         if let Some(difference) = difference(other, &self.m) {
             panic!("at step {}: {difference}", self.steps);
         }
@@ -47,10 +47,10 @@ impl Beside {
 pub fn step_by_step(mut m: Machine) -> (Outcome, Machine, u64) {
     let (mut outcome, mut steps) = (Outcome::default(), 0);
     loop {
-        let (answer, counted) = ours::step(&mut m);
-        assert_eq!(counted, 1, "an unrefused step counts");
+        let called = ours::step(&mut m);
+        assert_eq!(called.count, 1, "an unrefused step counts");
         steps += 1;
-        if !outcome.goes_on(&m, answer) {
+        if !outcome.goes_on(&m, called.answer) {
             return (outcome, m, steps);
         }
     }
@@ -60,9 +60,9 @@ pub fn step_by_step(mut m: Machine) -> (Outcome, Machine, u64) {
 pub fn by_run(mut m: Machine) -> (Outcome, Machine, u64) {
     let (mut outcome, mut steps) = (Outcome::default(), 0);
     loop {
-        let (answer, counted) = ours::run(&mut m, BUDGET);
-        steps += counted;
-        if !outcome.goes_on(&m, answer) {
+        let called = ours::run(&mut m, BUDGET);
+        steps += called.count;
+        if !outcome.goes_on(&m, called.answer) {
             return (outcome, m, steps);
         }
     }
@@ -102,7 +102,7 @@ impl Recorder {
         loop {
             before.copy_from(&m);
             let mut bytes = UNTOUCHED;
-            let (answer, _) = ours::step_recorded(&mut m, &mut bytes);
+            let answer = ours::step_recorded(&mut m, &mut bytes).answer;
             let expected = StepRecord::of(&before, &m);
             let name = name(expected.word()).expect("an instruction that was carried out");
             let times = self.tally.instructions.entry(name).or_default();
@@ -155,7 +155,7 @@ impl Recorder {
         } else {
             let is_step = self.made.is_step(changed, |before, after| {
                 after.copy_from(before);
-                Some(ours::step(after).0)
+                Some(ours::step(after).answer)
             });
             assert_eq!(is_step, accepted, "our step and the checker, byte {byte} of {changed:02x?}");
             let same = accepted && self.is_step_of_the_rust(&changed.with_other_rules());

@@ -1,12 +1,13 @@
 //! Trials for rules 1: what a user program can run and the manual defines.
 
 use super::{
+    choices::on_words,
     places,
     trial::{Flow, Trial, CODE},
 };
 use crate::{
     cases::{
-        alu::{fields, operations, shifts_by_field, shifts_by_register, IMMEDIATE_OPCODES},
+        alu::{fields, operations, shifts_by_field, shifts_by_register, DIVISIONS, IMMEDIATE_OPCODES},
         jumps::BRANCHES,
         loads::{LOADS, STORES},
         Case, ALU, BRANCH, EXAMPLE, HI_LO, IMMEDIATE, JUMP, LOAD, STORE,
@@ -108,17 +109,26 @@ impl Maker {
         shamt: u32,
         alias: usize,
     ) -> Option<Trial> {
-        let (opcode, funct) = code;
         let (rs_value, rt_value) = defined(code, rs_value, rt_value);
-        let (rs, rt, rd) = defined_fields(code, fields(&mut self.rng, alias));
-        let divides = opcode == SPECIAL && matches!(funct, 0x1A | 0x1B | 0x1E | 0x1F);
-        if divides && (rt == 0 || rt_value == 0) {
+        let fields = defined_fields(code, fields(&mut self.rng, alias));
+        let divides = code.0 == SPECIAL && DIVISIONS.contains(&code.1);
+        if divides && (fields.1 == 0 || rt_value == 0) {
             return None;
         }
+        Some(self.operation_on(code, fields, (rs_value, rt_value), shamt))
+    }
+
+    fn operation_on(
+        &mut self,
+        (opcode, funct): (u32, u32),
+        (rs, rt, rd): (u32, u32, u32),
+        (rs_value, rt_value): (u64, u64),
+        shamt: u32,
+    ) -> Trial {
         let shamt = if shifts_by_field(opcode, funct) { shamt } else { 0 };
         let hi_lo = opcode == SPECIAL && matches!(funct, 0x10..=0x13 | 0x18..=0x1F);
         let class = if hi_lo { HI_LO } else { ALU };
-        Some(self.plain(class, r_type(opcode, rs, rt, rd, shamt, funct), &[(rs, rs_value), (rt, rt_value)]))
+        self.plain(class, r_type(opcode, rs, rt, rd, shamt, funct), &[(rs, rs_value), (rt, rt_value)])
     }
 
     pub fn immediate(&mut self, opcode: u32, rs_value: u64, immediate: u32, alias: usize) -> Trial {
@@ -136,6 +146,10 @@ impl Maker {
             SCD => (Flow::Linked { load: LLD }, 0),
             _ => (flow, offset),
         };
+        self.access_at(opcode, (pc, flow), offset, memory, rt_value)
+    }
+
+    fn access_at(&mut self, opcode: u32, (pc, flow): (u64, Flow), offset: u64, memory: u64, rt_value: u64) -> Trial {
         let address = places::doubleword(&mut self.rng);
         let (rs, immediate) = (1 + self.rng.below(31) as u32, self.rng.immediate());
         let rt = if self.rng.one_in(8) { rs } else { self.rng.register() };
@@ -143,6 +157,31 @@ impl Maker {
         let class = if STORES.contains(&opcode) { STORE } else { LOAD };
         let (word, touched) = (i_type(opcode, rs, rt, immediate), Some((address, memory)));
         self.build(Draft { class, word, pc, flow, touched, registers: &[(rt, rt_value), (rs, base)] })
+    }
+
+    /// One by chance on which the manual leaves something open or document 01 may choose otherwise: words with any
+    /// upper half, divisions by zero, SC and SCD that nothing was linked for.
+    pub fn random_open(&mut self) -> Trial {
+        let (a, b, shamt, k) = (self.rng.value(), self.rng.value(), self.rng.register(), self.rng.index(8));
+        match self.rng.below(8) {
+            0 => {
+                let opcode = self.rng.pick(&[SC, SCD]);
+                let offset = if opcode == SC { 4 * (k as u64 % 2) } else { 0 };
+                let pc = places::pc(&mut self.rng);
+                self.access_at(opcode, (pc, Flow::Next), offset, a, b)
+            }
+            1 => {
+                let code = (SPECIAL, self.rng.pick(&DIVISIONS));
+                let fields = defined_fields(code, fields(&mut self.rng, k));
+                self.operation_on(code, fields, (a, 0), shamt)
+            }
+            _ => {
+                let code = self.rng.pick(&self.operations);
+                let code = if on_words(code) { code } else { (SPECIAL, 0x03 + 4 * (k as u32 % 2)) };
+                let fields = defined_fields(code, fields(&mut self.rng, k));
+                self.operation_on(code, fields, (a, b), shamt)
+            }
+        }
     }
 
     pub fn branch(&mut self, code: (u32, Option<u32>), rs_value: u64, immediate: u32) -> Trial {

@@ -4,6 +4,7 @@
 //! `cases` makes trials of what a user program can run and the manual defines, and `fixed` is the list of them.
 
 pub mod cases;
+pub mod choices;
 pub mod driver;
 pub mod fixed;
 mod places;
