@@ -1,5 +1,6 @@
-// Document 01's examples 1 to 12 through the kernel, under rules 0 and rules 1. The file stdout has document 01's
-// numbers.
+// Document 01's examples 1 to 12 through the kernel, under rules 0 and rules 1, and its sentence on sign_extend. The file
+// stdout has document 01's numbers.
+use interpreter::bits;
 use interpreter::cpu;
 use interpreter::effect::Change;
 use interpreter::effect::Effect;
@@ -131,8 +132,31 @@ fn memory() {
     example(b"12. SWR at 5", 0xb822_0005, 0, 0x1122_3344, 0, Part::Mem);
 }
 
+fn sign(x: u64, index: u64) {
+    text(b"sign_extend 0x");
+    io::print_hex(STDOUT_FILENO, x, 16);
+    text(b" from ");
+    io::print_decimal(STDOUT_FILENO, index);
+    text(b": 0x");
+    io::print_hex(STDOUT_FILENO, bits::sign_extend(x, index), 16);
+    text(b"\n");
+}
+
+// Counts are modulo 64, a multiple of 64 gives 0, and every bit from index - 1 up is a sign.
+fn signs() {
+    sign(M, 0);
+    sign(M, 64);
+    sign(0x7f, 8);
+    sign(0x80, 8);
+    sign(0x100, 8);
+    sign(0x80, 72);
+    sign(1, 1);
+    sign(0x8000_0000_0000_0000, 63);
+}
+
 fn main() {
     registers();
     hi_and_lo();
     memory();
+    signs();
 }
