@@ -104,75 +104,42 @@ fn called(m: &mut Machine, kind: u64, [used, first, second, count]: [u64; 4]) ->
     }
 }
 
+/// A call of the machine: what all three lend, then what only this one takes, and the entries.
+macro_rules! call {
+    ($function:ident, $m:ident $(, $more:expr)*) => {{
+        let mut entries = entries($m);
+        let kind = unsafe {
+            $function(
+                $m.state.as_mut_ptr(),
+                $m.state.len(),
+                $m.pages.as_mut_ptr(),
+                $m.pages.len(),
+                $m.hint.as_mut_ptr(),
+                $m.hint.len(),
+                $m.output.as_mut_ptr(),
+                $m.output.len(),
+                $m.index.as_ptr(),
+                $m.index.len(),
+                $m.data.as_ptr(),
+                $m.data.len(),
+                $($more,)*
+                entries.as_mut_ptr(),
+                entries.len(),
+            )
+        };
+        called($m, kind, entries)
+    }};
+}
+
 pub fn step(m: &mut Machine) -> Called {
-    let mut entries = entries(m);
-    let kind = unsafe {
-        rocchivanda_step(
-            m.state.as_mut_ptr(),
-            m.state.len(),
-            m.pages.as_mut_ptr(),
-            m.pages.len(),
-            m.hint.as_mut_ptr(),
-            m.hint.len(),
-            m.output.as_mut_ptr(),
-            m.output.len(),
-            m.index.as_ptr(),
-            m.index.len(),
-            m.data.as_ptr(),
-            m.data.len(),
-            entries.as_mut_ptr(),
-            entries.len(),
-        )
-    };
-    called(m, kind, entries)
+    call!(rocchivanda_step, m)
 }
 
 /// The same with a record of the step, where it is one that can be recorded.
 pub fn step_recorded(m: &mut Machine, record: &mut [u8; STEP_RECORD]) -> Called {
-    let mut entries = entries(m);
-    let kind = unsafe {
-        rocchivanda_step_recorded(
-            m.state.as_mut_ptr(),
-            m.state.len(),
-            m.pages.as_mut_ptr(),
-            m.pages.len(),
-            m.hint.as_mut_ptr(),
-            m.hint.len(),
-            m.output.as_mut_ptr(),
-            m.output.len(),
-            m.index.as_ptr(),
-            m.index.len(),
-            m.data.as_ptr(),
-            m.data.len(),
-            record.as_mut_ptr(),
-            record.len(),
-            entries.as_mut_ptr(),
-            entries.len(),
-        )
-    };
-    called(m, kind, entries)
+    call!(rocchivanda_step_recorded, m, record.as_mut_ptr(), record.len())
 }
 
 pub fn run(m: &mut Machine, budget: u64) -> Called {
-    let mut entries = entries(m);
-    let kind = unsafe {
-        rocchivanda_run(
-            m.state.as_mut_ptr(),
-            m.state.len(),
-            m.pages.as_mut_ptr(),
-            m.pages.len(),
-            m.hint.as_mut_ptr(),
-            m.hint.len(),
-            m.output.as_mut_ptr(),
-            m.output.len(),
-            m.index.as_ptr(),
-            m.index.len(),
-            m.data.as_ptr(),
-            m.data.len(),
-            budget,
-            entries.as_mut_ptr(),
-            entries.len(),
-        )
-    };
-    called(m, kind, entries)
+    call!(rocchivanda_run, m, budget)
 }
