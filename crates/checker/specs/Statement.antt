@@ -1,5 +1,5 @@
 -- What is proved of the checker (demand 3). The proof is `theorems` in proofs/Laws/Proved.antt.
-use Prim.Native.Nat.{ℕ, _+_, _^_, _≤_, _<_}
+use Prim.Native.Nat.{ℕ, _<_}
 use mathlib.Core.Path.{_≡_}
 use mathlib.Core.Logic.{_↔_}
 use mathlib.Core.Bool.{true, false}
@@ -11,11 +11,12 @@ use Rattle.interpreter.specs.declared.effect.Refusal.{Refusal}
 use Rattle.interpreter.specs.declared.effect.Touch.{Touch}
 use Rattle.interpreter.specs.declared.effect.Touch.the-variants.{Nothing, Eight}
 use Rattle.interpreter.specs.declared.step.Answer.the-variants.{Refused as RefusedStep}
-use Rattle.interpreter.specs.declared.state.State.{State}
-use Rattle.interpreter.specs.Machine.{Machine, reg, cpuOf, stateOf}
+use Rattle.interpreter.specs.Machine.{Machine, cpuOf, stateOf}
+use Rattle.interpreter.specs.Layout.{Typed}
 use Rattle.interpreter.specs.Step.{stepDef}
 use Rattle.interpreter.specs.Recording.{wide, wordIn as wordAt, stateIn, recordedDef}
 use Rattle.interpreter.specs.Ideal.{ideal, Outcome, idealStep}
+use Rattle.interpreter.specs.Shown.{Outside}
 use Rattle.checker.specs.declared.verdict.Fault.{Fault}
 use Rattle.checker.specs.declared.verdict.Verdict.the-variants.{Accepted, Refused}
 use Rattle.checker.specs.Verdicts.{faultNumber}
@@ -56,26 +57,6 @@ pub record Gives (r : List ℕ) (m : Memory) (x d h : List ℕ) : Type 0 where
   pub state : stateOf (stepFrom r m x d h .machine .cpu) (stepFrom r m x d h .machine .regs) (stepFrom r m x d h .machine .key) ≡ newIn r
   pub eight : Has (stepFrom r m x d h .machine .memory) (touchIn r) (newEight r)
 
--- an address that is none of the touched eight
-abbrev pub Outside : Touch → ℕ → Type 0
-Outside Nothing b = Unit {0}
-Outside (Eight a) b = (a ≤ b → b < a + 8 → ⊥)
-
--- what every value of the type `State` is: 32 registers and eight numbers of 64 bits, a key of 32 bytes, a code of 8 bits
-pub record Typed (s : State) : Type 0 where
-  pub regs : length (s .regs) ≡ 32
-  pub values : (i : ℕ) → reg (s .regs) i < 2 ^ 64
-  pub pc : s .pc < 2 ^ 64
-  pub next : s .next < 2 ^ 64
-  pub hi : s .hi < 2 ^ 64
-  pub lo : s .lo < 2 ^ 64
-  pub heap : s .heap < 2 ^ 64
-  pub step : s .step < 2 ^ 64
-  pub offset : s .offset < 2 ^ 64
-  pub key : length (s .key) ≡ 32
-  pub bytes : (i : ℕ) → cell (s .key) i < 256
-  pub code : s .code < 256
-
 pub record Theorems : Type 0 where
   -- 1. the answer is the first number in document 01's order whose condition holds
   pub refused-first : (r : List ℕ) (f : Fault) → (checkDef r ≡ Refused f) ↔ ((applies r f ≡ true) × ((g : Fault) → faultNumber g < faultNumber f → applies r g ≡ false))
@@ -86,7 +67,7 @@ pub record Theorems : Type 0 where
   -- 3. then every such memory does, whatever the input and the hint bytes, and no other byte in it changes
   pub accepted-steps : (r : List ℕ) → checkDef r ≡ Accepted → (m : Memory) → Holds r m → (x d h : List ℕ)
       → Gives r m x d h × ((b : ℕ) → Outside (touchIn r) b → stepFrom r m x d h .machine .memory b ≡ m b)
-  -- 4. every record that the machine fills, for every state, page store and input, is accepted: it fills one for every step that counts and isn't wide
+  -- 4. every record that the machine fills, for every value of the type `State`, page store and input, is accepted: it fills one for every step that counts and isn't wide
   pub filled-accepted : (x d : List ℕ) (m : Machine) (b : List ℕ) → Bytes (cell (m .pages)) → Typed (stateIn m) → length b ≡ 752
       → stepDef x d m .counts ≡ true → wide (m .cpu) (m .regs) (wordAt m) ≡ false → checkDef (recordedDef x d m b .buf) ≡ Accepted
   -- 5. document 01's fourteen examples hold

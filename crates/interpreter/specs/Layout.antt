@@ -83,7 +83,8 @@ decodeDef b = cond (eqb (length b) 360 && formedAt b 0) (valid (decodeAt b 0)) m
 
 -- ---- the states that 360 bytes can say
 
-pub record Fits (s : State) : Type 0 where
+-- what every value of the type `State` is: 32 registers and eight numbers of 64 bits, a key of 32 bytes, a code of 8 bits
+pub record Typed (s : State) : Type 0 where
   pub regs : length (s .regs) ≡ 32
   pub values : (i : ℕ) → reg (s .regs) i < 2 ^ 64
   pub pc : s .pc < 2 ^ 64
@@ -93,8 +94,11 @@ pub record Fits (s : State) : Type 0 where
   pub heap : s .heap < 2 ^ 64
   pub step : s .step < 2 ^ 64
   pub offset : s .offset < 2 ^ 64
-  pub hint : s .hint ≤ hintRoom
   pub key : length (s .key) ≡ 32
   pub bytes : (i : ℕ) → cell (s .key) i < 256
   pub code : s .code < 256
+
+pub record Fits (s : State) : Type 0 where
+  pub typed : Typed s
+  pub hint : s .hint ≤ hintRoom
   pub rules : s .rules ≤ largestRules

@@ -1,5 +1,5 @@
 -- The step that a record shows (document 01, "The step record"): made from a state, the instruction and the touched eight bytes alone.
-use Prim.Native.Nat.{ℕ}
+use Prim.Native.Nat.{ℕ, _+_, _≤_, _<_}
 use mathlib.Core.Bool.{cond}
 use mathlib.Core.List.{List, []}
 use Rattle.pages.specs.Bytes.{bytesOf}
@@ -21,6 +21,11 @@ use Rattle.interpreter.specs.Recording.{wide, touched}
 unfoldable pub shownAt : Touch → ℕ → Memory
 shownAt Nothing x = λ b. 0
 shownAt (Eight a) x = write (λ b. 0) a (bytesOf 8 x)
+
+-- an address that is none of the touched eight
+abbrev pub Outside : Touch → ℕ → Type 0
+Outside Nothing b = Unit {0}
+Outside (Eight a) b = (a ≤ b → b < a + 8 → ⊥)
 
 -- what the kernel says of the instruction w
 unfoldable pub effectShown : Cpu → List ℕ → ℕ → Memory → Effect

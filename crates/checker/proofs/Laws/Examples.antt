@@ -3,8 +3,6 @@ use mathlib.Core.Path.{_≡_, refl}
 use mathlib.Core.Logic.{Dec·and}
 use mathlib.Core.Bool.{true, decide, decide-iff}
 use mathlib.Core.List.{List, [], _∷_}
-use Prim.Native.Nat.{ℕ}
-use native.Mathlib.Omega.{arith}
 use native.Mathlib.Decide.{ℕ-discrete}
 use lib.Count.{leadingZeros}
 use Rattle.pages.specs.Bytes.{row, big, bytesOf}
@@ -25,20 +23,17 @@ use Rattle.interpreter.specs.Inputs.{same}
 use Rattle.interpreter.specs.Recording.{calls, wide, touched}
 use Rattle.interpreter.specs.Ideal.{idealView, follow, idealStep}
 use Rattle.interpreter.specs.Shown.{effectShown, planShown}
-use Rattle.checker.specs.declared.verdict.Fault.{Fault}
 use Rattle.checker.specs.declared.verdict.Verdict.{Verdict}
 use Rattle.checker.specs.declared.verdict.Verdict.the-variants.{Accepted, Refused}
 use Rattle.checker.specs.Records.{oldIn, newIn, wordIn, addressIn, oldEight, newEight, touchIn, effectIn, planIn}
 use Rattle.checker.specs.Check.{wrongLength, malformed, exitedIn, refusedIn, wideIn, misplaced, sameNumbers, sameState, differs, applies, firstOf, checkDef}
 use Rattle.checker.specs.Examples.{Result-discrete, Example, executes, accepts, record14, examples, startRegs, stepOf, comes, Says, Every}
+use Rattle.checker.proofs.Laws.Same.{refused-not}
 
 -- the word's instruction, which only a proof can compare
 abbrev Named : Example → Type 0
 Named (executes number ins w x regs p r0 r1) = decode w ≡ ins
 Named (accepts number r) = Unit {0}
-
-refused-not : {f : Fault} → Refused f ≡ Accepted → ⊥
-refused-not e = let z : _≡_ {A = ℕ} 0 1 = cc in absurd (omega arith)
 
 abbrev accepted : (v : Verdict) → Dec (v ≡ Accepted)
 accepted Accepted = yes refl

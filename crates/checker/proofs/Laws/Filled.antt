@@ -2,7 +2,7 @@
 use mathlib.Core.Path.{_≡_, refl, sym, ap, subst, _∙_}
 use mathlib.Core.Bool.{Bool, true, false, not}
 use mathlib.Core.List.{List}
-use Prim.Native.Nat.{ℕ, _+_, _^_, _≤_, _<_, min}
+use Prim.Native.Nat.{ℕ, _+_, _^_, _<_}
 use native.Mathlib.Nat.{mod-eq-of-lt}
 use native.Mathlib.Omega.{arith}
 use lib.ListN.{length}
@@ -14,17 +14,19 @@ use Rattle.pages.proofs.Laws.Meaning.{byte-small}
 use Rattle.interpreter.specs.declared.effect.Touch.{Touch}
 use Rattle.interpreter.specs.declared.effect.Touch.the-variants.{Nothing, Eight}
 use Rattle.interpreter.specs.declared.state.State.{State}
-use Rattle.interpreter.specs.Machine.{Machine, cpuOf, stateOf, roomOf, bad}
+use Rattle.interpreter.specs.Machine.{Machine, cpuOf, stateOf, bad}
 use Rattle.interpreter.specs.Plan.{eightAt}
-use Rattle.interpreter.specs.Layout.{formedAt, Fits}
-use Rattle.interpreter.specs.Step.{stepDef}
+use Rattle.interpreter.specs.Layout.{formedAt, Typed, Fits}
+use Rattle.interpreter.specs.Step.{Left, stepDef}
 use Rattle.interpreter.specs.Records.{recordOf}
-use Rattle.interpreter.specs.Recording.{wide, touched, memoryOf, stateIn, wordIn as wordAt, touchIn as touchAt, recordFrom, recording, recordedDef}
+use Rattle.interpreter.specs.Recording.{wide, memoryOf, stateIn, wordIn as wordAt, touchIn as touchAt, recordFrom, recording, recordedDef}
 use Rattle.interpreter.specs.Ideal.{Ideal, meant, Outcome, idealStep, Follows}
 use Rattle.interpreter.specs.Runs.{isRefused}
-use Rattle.interpreter.proofs.Laws.Tests.{no-true}
+use Rattle.interpreter.proofs.Laws.Tests.{no-true, both, off}
+use Rattle.interpreter.proofs.Laws.Bytes.{big-lt}
+use Rattle.interpreter.proofs.Laws.Hints.{room-fits}
 use Rattle.interpreter.proofs.Laws.Records.{length-record, record-old, record-new, record-word, record-spare, record-touch, touch-none, touch-address, touch-old, touch-new, record-bytes}
-use Rattle.interpreter.proofs.Laws.Kept.{formed}
+use Rattle.interpreter.proofs.Laws.Kept.{formed, bad-step}
 use Rattle.interpreter.proofs.Laws.Refine.{refines-unless}
 use Rattle.interpreter.proofs.Laws.Runs.{step-works}
 use Rattle.interpreter.proofs.Laws.Sizes.{step-bytes, step-fits}
@@ -32,9 +34,8 @@ use Rattle.interpreter.proofs.Laws.Narrow.{touched-aligned}
 use Rattle.checker.specs.declared.verdict.Verdict.the-variants.{Accepted}
 use Rattle.checker.specs.Records.{oldIn, newIn, wordIn, addressIn, oldEight, newEight, touchIn}
 use Rattle.checker.specs.Check.{wrongLength, malformed, exitedIn, wideIn, placed, checkDef}
-use Rattle.checker.specs.Statement.{Bytes, Form, Has, Holds, stepFrom, Gives, Typed}
-use Rattle.checker.proofs.Laws.Same.{both, off}
-use Rattle.checker.proofs.Laws.Theorem.{refused-not, eight-small, has-eight, steps-accepted}
+use Rattle.checker.specs.Statement.{Bytes, Form, Has, Holds, stepFrom, Gives}
+use Rattle.checker.proofs.Laws.Theorem.{unrefused-not, has-eight, steps-accepted}
 
 -- ---- the touched eight bytes in a record
 
@@ -45,12 +46,12 @@ module _ (s n : State) (w : ℕ) where
   old-shown : (t : Touch) (k l : Memory) → Bytes k → oldEight (filled t k l) ≡ eightAt k t
   unfolding oldEight
   old-shown Nothing k l b = record-touch s n w Nothing 0 0 8 ∙ touch-none 0 0 8 (omega arith)
-  old-shown (Eight a) k l b = record-touch s n w (Eight a) (big 8 k a) (big 8 l a) 8 ∙ touch-old a (big 8 k a) (big 8 l a) ∙ mod-eq-of-lt (eight-small k a b)
+  old-shown (Eight a) k l b = record-touch s n w (Eight a) (big 8 k a) (big 8 l a) 8 ∙ touch-old a (big 8 k a) (big 8 l a) ∙ mod-eq-of-lt (big-lt 8 k a b)
 
   new-shown : (t : Touch) (k l : Memory) → Bytes l → newEight (filled t k l) ≡ eightAt l t
   unfolding newEight
   new-shown Nothing k l b = record-touch s n w Nothing 0 0 16 ∙ touch-none 0 0 16 (omega arith)
-  new-shown (Eight a) k l b = record-touch s n w (Eight a) (big 8 k a) (big 8 l a) 16 ∙ touch-new a (big 8 k a) (big 8 l a) ∙ mod-eq-of-lt (eight-small l a b)
+  new-shown (Eight a) k l b = record-touch s n w (Eight a) (big 8 k a) (big 8 l a) 16 ∙ touch-new a (big 8 k a) (big 8 l a) ∙ mod-eq-of-lt (big-lt 8 l a b)
 
   place-shown : (t : Touch) (k l : Memory) → Bytes k → Bytes l → ((a : ℕ) → t ≡ Eight a → a < 2 ^ 64) → placed (filled t k l) t ≡ true
   unfolding addressIn
@@ -61,39 +62,17 @@ module _ (s n : State) (w : ℕ) where
 
 -- ---- the record of a step
 
-bad-refused : (x d : List ℕ) (m : Machine) → bad m ≡ true → isRefused (stepDef x d m .answer) ≡ true
-unfolding stepDef
-bad-refused x d m e = rw e
-
 good : (x d : List ℕ) (m : Machine) → isRefused (stepDef x d m .answer) ≡ false → bad m ≡ false
 good x d m e = go (bad m) refl
   where
     go : (b : Bool) → bad m ≡ b → b ≡ false
-    go true y = no-true (sym (bad-refused x d m y) ∙ e)
+    go true y = no-true (sym (ap (λ (l : Left). isRefused (l .answer)) (bad-step x d m y)) ∙ e)
     go false y = refl
 
 -- where 1 does not apply, rules and hint length are in bounds too
 typed-fits : (m : Machine) → Typed (stateIn m) → bad m ≡ false → Fits (stateIn m)
-unfolding roomOf stateOf
-typed-fits m t e =
-    let f = formed m e in
-    let h : m .cpu .hint ≤ min (length (m .hint)) 65536 = f .hint in
-    record {
-      regs = t .regs;
-      values = t .values;
-      pc = t .pc;
-      next = t .next;
-      hi = t .hi;
-      lo = t .lo;
-      heap = t .heap;
-      step = t .step;
-      offset = t .offset;
-      hint = omega arith;
-      key = t .key;
-      bytes = t .bytes;
-      code = t .code;
-      rules = f .rules;
-    }
+unfolding stateOf
+typed-fits m t e = let f = formed m e in record { typed = t; hint = room-fits (m .hint) (m .cpu .hint) (f .hint) .0; rules = f .rules }
 
 module _ (x d : List ℕ) (m : Machine) (pages : Bytes (cell (m .pages))) (typed : Typed (stateIn m)) (counts : stepDef x d m .counts ≡ true)
     (narrow : wide (m .cpu) (m .regs) (wordAt m) ≡ false) where
@@ -145,7 +124,7 @@ module _ (x d : List ℕ) (m : Machine) (pages : Bytes (cell (m .pages))) (typed
 
   address-small : (a : ℕ) → touchAt m ≡ Eight a → a < 2 ^ 64
   unfolding stateOf
-  address-small a e = touched-aligned (m .cpu) (m .regs) (wordAt m) a (fits .values) e .1
+  address-small a e = touched-aligned (m .cpu) (m .regs) (wordAt m) a (typed .values) e .1
 
   old-formed : formedAt r 0 ≡ true
   old-formed = record-old (stateIn m) (stateIn m′) (wordAt m) (touchAt m) old new fits .1
@@ -181,7 +160,7 @@ module _ (x d : List ℕ) (m : Machine) (pages : Bytes (cell (m .pages))) (typed
 
   follows : Follows x d m
   unfolding stateOf
-  follows = refines-unless x d m (fits .values) (refused-not _ _ unrefused) (refused-not _ _ unrefused) (refused-not _ _ unrefused)
+  follows = refines-unless x d m (typed .values) (unrefused-not _ _ unrefused) (unrefused-not _ _ unrefused) (unrefused-not _ _ unrefused)
 
   abbrev held : List ℕ
   held = row (cell (m .hint)) 0 (m .cpu .hint)
@@ -197,7 +176,7 @@ module _ (x d : List ℕ) (m : Machine) (pages : Bytes (cell (m .pages))) (typed
   unfolding meant
   gives =
       record {
-        unrefused = λ n e. refused-not (stepDef x d m .answer) n unrefused (follows .answer ∙ sym (ap (λ (o : Outcome). o .answer) step-is) ∙ e);
+        unrefused = λ n e. unrefused-not (stepDef x d m .answer) n unrefused (follows .answer ∙ sym (ap (λ (o : Outcome). o .answer) step-is) ∙ e);
         state = ap (λ (i : Ideal). stateOf (i .cpu) (i .regs) (i .key)) made ∙ sym new-is;
         eight =
             subst (λ (k : Memory). Has k (touchIn r) (newEight r)) (sym (ap (λ (i : Ideal). i .memory) made))

@@ -10,9 +10,10 @@ use lib.Dec.{eqb}
 use lib.ListN.{length}
 use Rattle.checker.specs.declared.verdict.Fault.{Fault}
 use Rattle.checker.specs.declared.verdict.Fault.the-variants.{Length, Form, AlreadyExited, StepRefused, WideStep, Touch, Result}
-use Rattle.checker.specs.declared.verdict.Verdict.the-variants.{Accepted, Refused}
+use Rattle.checker.specs.declared.verdict.Verdict.the-variants.{Refused}
 use Rattle.checker.specs.Verdicts.{faultNumber}
 use Rattle.checker.specs.Check.{applies, firstOf, order, checkDef}
+use Rattle.checker.proofs.Laws.Same.{refused-not}
 
 -- ---- a number says which fault it is
 
@@ -61,9 +62,6 @@ order-counts = (refl, (refl, (refl, (refl, (refl, (refl, (refl, tt)))))))
 refused-same : {f g : Fault} → Refused f ≡ Refused g → f ≡ g
 refused-same e = cc
 
-accepted-not : {A : Type 0} {f : Fault} → Accepted ≡ Refused f → A
-accepted-not e = let z : _≡_ {A = ℕ} 0 1 = cc in absurd (omega arith)
-
 module _ (p : Fault → Bool) (f : Fault) where
   abbrev Least : ℕ → Type 0
   Least n = (p f ≡ true) × (n ≤ faultNumber f) × ((g : Fault) → n ≤ faultNumber g → faultNumber g < faultNumber f → p g ≡ false)
@@ -84,7 +82,7 @@ module _ (p : Fault → Bool) (f : Fault) where
 
   first-least : (fs : List Fault) (n : ℕ) → Counts n fs → firstOf p fs ≡ Refused f → Least n
   unfolding firstOf
-  first-least [] n c e = accepted-not e
+  first-least [] n c e = refused-not (sym e)
   first-least (h ∷ fs) n c e = go (p h) refl e (first-least fs (n + 1) (c .1))
     where
       go : (b : Bool) → p h ≡ b → cond b (Refused h) (firstOf p fs) ≡ Refused f → (firstOf p fs ≡ Refused f → Least (n + 1)) → Least n

@@ -25,7 +25,7 @@ use Rattle.interpreter.specs.Plan.{Deed, Plan, does, eightAt}
 use Rattle.interpreter.specs.Layout.{formedAt, decodeAt, valid, malformed as noState, decodedAt}
 use Rattle.interpreter.specs.Ideal.{remember}
 use Rattle.interpreter.specs.Shown.{Shown, shown, madeBy, unlessRefused, madeWith, stepShown}
-use Rattle.interpreter.proofs.Laws.Tests.{no-true}
+use Rattle.interpreter.proofs.Laws.Tests.{no-true, on, off}
 use Rattle.interpreter.proofs.Laws.Shown.{unrefused}
 use Rattle.interpreter.proofs.Laws.Narrow.{Narrow, Found, found, shown-found}
 use Rattle.checker.specs.declared.verdict.Fault.the-variants.{Length, Form, AlreadyExited, StepRefused, WideStep, Touch as TouchFault, Result}
@@ -34,7 +34,6 @@ use Rattle.checker.specs.declared.verdict.Verdict.the-variants.{Accepted
 use Rattle.checker.specs.Records.{oldIn, newIn, wordIn, addressIn, oldEight, newEight, touchIn, memoryIn, effectIn, planIn}
 use Rattle.checker.specs.Check.{wrongLength, malformed, exitedIn, refuses, refusedIn, wideIn, placed, agrees, misplaced, sameState, gives, differs, applies, firstOf, checkDef}
 use Rattle.checker.specs.Parts.{stepJudged, resultJudged}
-use Rattle.checker.proofs.Laws.Same.{on, off}
 
 cond-not : (b : Bool) {A : Type 0} (x y : A) → cond b x y ≡ cond (not b) y x
 cond-not true x y = refl

@@ -1,6 +1,6 @@
 -- Two states that are the same in every field are one.
 use mathlib.Core.Path.{_≡_, refl, sym, _∙_}
-use mathlib.Core.Bool.{Bool, true, false, _&&_, not, Bool·beq}
+use mathlib.Core.Bool.{Bool, true, false, not, Bool·beq}
 use mathlib.Core.List.{List}
 use Prim.Native.Nat.{ℕ, zero, suc, _+_, _≤_, _<_}
 use native.Mathlib.Nat.{zero-add}
@@ -15,15 +15,14 @@ use Rattle.interpreter.specs.declared.state.Cpu.{Cpu}
 use Rattle.interpreter.specs.declared.state.State.{State}
 use Rattle.interpreter.specs.Machine.{reg, cpuOf, stateOf}
 use Rattle.interpreter.specs.Inputs.{same}
-use Rattle.interpreter.proofs.Laws.Tests.{no-true}
+use Rattle.interpreter.proofs.Laws.Tests.{no-true, both, on, off}
 use Rattle.interpreter.proofs.Laws.Inputs.{same-more, same-not}
+use Rattle.interpreter.proofs.Laws.Layout.{state-parts}
+use Rattle.checker.specs.declared.verdict.Fault.{Fault}
+use Rattle.checker.specs.declared.verdict.Verdict.the-variants.{Accepted, Refused}
 use Rattle.checker.specs.Check.{sameNumbers, sameState}
 
 -- ---- tests
-
-pub both : {a b : Bool} → (a && b) ≡ true → (a ≡ true) × (b ≡ true)
-both {a = true} {b = b} e = (refl, e)
-both {a = false} {b = b} e = no-true (sym e)
 
 beq-out : (a b : Bool) → Bool·beq a b ≡ true → a ≡ b
 beq-out true true e = refl
@@ -35,13 +34,9 @@ beq-in : (a : Bool) → Bool·beq a a ≡ true
 beq-in true = refl
 beq-in false = refl
 
-pub off : (b : Bool) → not b ≡ true → b ≡ false
-off true h = no-true (sym h)
-off false h = refl
-
-pub on : (b : Bool) → not b ≡ false → b ≡ true
-on true h = refl
-on false h = no-true h
+-- the two verdicts differ
+pub refused-not : {A : Type 0} {f : Fault} → Refused f ≡ Accepted → A
+refused-not e = let z : _≡_ {A = ℕ} 0 1 = cc in absurd (omega arith)
 
 -- ---- lists of 32
 
@@ -98,10 +93,6 @@ numbers-is c d e =
 is-numbers : (c : Cpu) → sameNumbers c c ≡ true
 unfolding sameNumbers
 is-numbers c = rw (eq-eqb (c .pc) _ refl, eq-eqb (c .next) _ refl, eq-eqb (c .hi) _ refl, eq-eqb (c .lo) _ refl, eq-eqb (c .heap) _ refl, eq-eqb (c .step) _ refl, eq-eqb (c .offset) _ refl, eq-eqb (c .hint) _ refl, beq-in (c .exited), eq-eqb (c .code) _ refl, eq-eqb (c .rules) _ refl)
-
-state-parts : (s : State) → stateOf (cpuOf s) (s .regs) (s .key) ≡ s
-unfolding stateOf cpuOf
-state-parts s = refl
 
 pub state-is : (s t : State) → length (s .regs) ≡ 32 → length (t .regs) ≡ 32 → length (s .key) ≡ 32 → length (t .key) ≡ 32 → sameState s t ≡ true → s ≡ t
 unfolding sameState stateOf cpuOf

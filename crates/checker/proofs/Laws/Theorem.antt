@@ -10,10 +10,10 @@ use lib.ListN.{length}
 use borrow.Author.Tests.{eq-eqb, eqb-true, eqb-false}
 use Rattle.pages.specs.Bytes.{cell, row, big, bytesOf}
 use Rattle.pages.specs.Memory.{Memory, write}
-use Rattle.pages.proofs.Laws.Runs.{Where, below, above, among, where-is, length-row, cell-row, row-bytes}
+use Rattle.pages.proofs.Laws.Runs.{length-row, cell-row, row-bytes}
 use Rattle.pages.proofs.Laws.Numbers.{big-ext}
-use Rattle.pages.proofs.Laws.Places.{bytes-big, big-bound}
-use Rattle.pages.proofs.Laws.Meaning.{write-below, write-above, write-among}
+use Rattle.pages.proofs.Laws.Places.{bytes-big}
+use Rattle.pages.proofs.Laws.Meaning.{write-among, write-outside}
 use Rattle.interpreter.specs.declared.effect.Effect.{Effect}
 use Rattle.interpreter.specs.declared.effect.Effect.the-variants.{Refused as RefusedBy, Call as CallBy, Done}
 use Rattle.interpreter.specs.declared.effect.Refusal.{Refusal}
@@ -26,20 +26,22 @@ use Rattle.interpreter.specs.Plan.{Deed, does, eightAt, insOf, touchOf, executi
 use Rattle.interpreter.specs.Layout.{eight, decodeAt}
 use Rattle.interpreter.specs.Ideal.{Ideal, ideal, idealView, counting, Outcome, follow, remember}
 use Rattle.interpreter.specs.Runs.{isRefused}
-use Rattle.interpreter.specs.Shown.{shownAt, effectShown}
-use Rattle.interpreter.proofs.Laws.Tests.{no-true}
+use Rattle.interpreter.specs.Shown.{shownAt, Outside, effectShown}
+use Rattle.interpreter.proofs.Laws.Tests.{no-true, both, on}
+use Rattle.interpreter.proofs.Laws.Bytes.{big-lt}
+use Rattle.interpreter.proofs.Laws.Bounds.{write-lt}
 use Rattle.interpreter.proofs.Laws.Codec.{length-numbers}
 use Rattle.interpreter.proofs.Laws.Recorder.{touched-even}
 use Rattle.interpreter.proofs.Laws.Shown.{write-back, unrefused, pc-aligned}
-use Rattle.interpreter.proofs.Laws.Narrow.{Narrow, Found, found, shown-same, shown-stops, ideal-fetches, Outside as Away, remember-outside, remember-same}
+use Rattle.interpreter.proofs.Laws.Narrow.{Narrow, Found, found, shown-same, shown-stops, ideal-fetches, remember-outside, remember-same}
 use Rattle.checker.specs.declared.verdict.Fault.{Fault}
 use Rattle.checker.specs.declared.verdict.Fault.the-variants.{Length, Form as FormFault, AlreadyExited, StepRefused, WideStep, Touch as TouchFault, Result}
 use Rattle.checker.specs.declared.verdict.Verdict.{Verdict}
 use Rattle.checker.specs.declared.verdict.Verdict.the-variants.{Accepted, Refused}
 use Rattle.checker.specs.Records.{oldIn, newIn, wordIn, addressIn, oldEight, newEight, touchIn, memoryIn, effectIn, planIn}
 use Rattle.checker.specs.Check.{exitedIn, refuses, refusedIn, wideIn, placed, agrees, misplaced, sameState, gives, differs, applies, firstOf, checkDef}
-use Rattle.checker.specs.Statement.{Bytes, Form, Has, Holds, stepFrom, Gives, Outside}
-use Rattle.checker.proofs.Laws.Same.{both, on, state-is, is-state}
+use Rattle.checker.specs.Statement.{Bytes, Form, Has, Holds, stepFrom, Gives}
+use Rattle.checker.proofs.Laws.Same.{refused-not, state-is, is-state}
 use Rattle.checker.proofs.Laws.Judged.{goes-on, narrow-found}
 
 -- ---- 1. the first that applies
@@ -54,11 +56,8 @@ record Passed (p : Fault → Bool) : Type 0 where
   touch : p TouchFault ≡ false
   result : p Result ≡ false
 
-accept-not : {A : Type 0} {f : Fault} → Refused f ≡ Accepted → A
-accept-not e = let z : _≡_ {A = ℕ} 0 1 = cc in absurd (omega arith)
-
 asked : (b : Bool) (f : Fault) (v : Verdict) → cond b (Refused f) v ≡ Accepted → (b ≡ false) × (v ≡ Accepted)
-asked true f v e = accept-not e
+asked true f v e = refused-not e
 asked false f v e = (refl, e)
 
 passed : (r : List ℕ) → checkDef r ≡ Accepted → Passed (applies r)
@@ -116,18 +115,14 @@ module _ (r : List ℕ) (p : Passed (applies r)) where
   unfolding applies differs
   is-result = on _ (p .result)
 
-pub refused-not : (a : Answer) (f : Refusal) → isRefused a ≡ false → a ≡ RefusedStep f → ⊥
-refused-not a f e z = no-true (sym (ap isRefused z) ∙ e)
-
--- a number in eight bytes
-pub eight-small : (m : Memory) (a : ℕ) → Bytes m → big 8 m a < 2 ^ 64
-eight-small m a b = big-bound 8 m a (λ k l. b (a + k))
+pub unrefused-not : (a : Answer) (f : Refusal) → isRefused a ≡ false → a ≡ RefusedStep f → ⊥
+unrefused-not a f e z = no-true (sym (ap isRefused z) ∙ e)
 
 -- the memory shows what the record shows
 shows : (r : List ℕ) (m : Memory) (t : Touch) → Bytes m → Has m t (oldEight r) → eightAt m t ≡ eightAt (shownAt t (oldEight r)) t
 unfolding shownAt
 shows r m Nothing b h = refl
-shows r m (Eight a) b h = h ∙ sym (write-back (λ c. 0) a (oldEight r) (subst (λ v. v < 2 ^ 64) h (eight-small m a b)))
+shows r m (Eight a) b h = h ∙ sym (write-back (λ c. 0) a (oldEight r) (subst (λ v. v < 2 ^ 64) h (big-lt 8 m a b)))
 
 module _ (r : List ℕ) (m : Memory) (h : Holds r m) where
   shown-as : eightAt m (touchIn r) ≡ eightAt (memoryIn r) (touchIn r)
@@ -168,14 +163,10 @@ module _ (r : List ℕ) (m : Memory) (h : Holds r m) where
       state-as = ap (λ (o : Outcome). stateOf (o .machine .cpu) (o .machine .regs) (o .machine .key)) stepped
 
       answers : (f : Refusal) → stepFrom r m x d g .answer ≡ RefusedStep f → ⊥
-      answers f z = refused-not (w .answer) f (n .answer) (sym answer-is ∙ z)
+      answers f z = unrefused-not (w .answer) f (n .answer) (sym answer-is ∙ z)
 
       outside : (b : ℕ) → Outside (touchIn r) b → stepFrom r m x d g .machine .memory b ≡ m b
-      outside b o = ap (λ (k : Memory). k b) memory-is ∙ remember-outside m (touchIn r) (w .store) (n .goes) b (away (touchIn r) o)
-        where
-          away : (t : Touch) → Outside t b → Away t b
-          away Nothing q = q
-          away (Eight a) q = q
+      outside b o = ap (λ (k : Memory). k b) memory-is ∙ remember-outside m (touchIn r) (w .store) (n .goes) b o
 
       -- the touched eight bytes afterwards
       eight-after : eightAt (stepFrom r m x d g .machine .memory) (touchIn r) ≡ eightAt (remember (memoryIn r) (w .store)) (touchIn r)
@@ -302,15 +293,6 @@ module _ (r : List ℕ) (b : Bytes (cell r)) (f : Form r) (m : Memory) (h : Hold
 
 -- ---- 2, from the record: a memory that holds what it shows
 
--- bytes written into a memory
-write-bytes : (m : Memory) (a : ℕ) (vs : List ℕ) → Bytes m → Bytes (cell vs) → Bytes (write m a vs)
-write-bytes m a vs p q b = go (where-is a (length vs) b)
-  where
-    go : Where a (length vs) b → write m a vs b < 256
-    go (below l) = subst (λ v. v < 256) (sym (write-below m a vs b l)) (p b)
-    go (above l) = subst (λ v. v < 256) (sym (write-above m a vs b l)) (p b)
-    go (among l g) = subst (λ v. v < 256) (sym (write-among m a vs b l g)) (q (b - a))
-
 module _ (m : Memory) (f : ℕ → ℕ) (a b n : ℕ) where
   written : (k : ℕ) → k < n → write m a (row f b n) (a + k) ≡ f (b + k)
   written k l =
@@ -320,14 +302,6 @@ module _ (m : Memory) (f : ℕ → ℕ) (a b n : ℕ) where
 
   written-number : big n (write m a (row f b n)) a ≡ big n f b
   written-number = big-ext n (write m a (row f b n)) f a b written
-
-  unwritten : (c : ℕ) → (a ≤ c → c < a + n → ⊥) → write m a (row f b n) c ≡ m c
-  unwritten c h = go (where-is a n c)
-    where
-      go : Where a n c → write m a (row f b n) c ≡ m c
-      go (below l) = write-below m a (row f b n) c l
-      go (above l) = write-above m a (row f b n) c (rw (length-row f b n) l)
-      go (among l g) = absurd (h l g)
 
 -- an aligned word outside an aligned doubleword has no byte in it
 apart : (pc a j : ℕ) → a % 8 ≡ 0 → pc % 4 ≡ 0 → (pc / 8 * 8 ≡ a → ⊥) → j < 4 → a ≤ pc + j → pc + j < a + 8 → ⊥
@@ -343,11 +317,11 @@ module _ (r : List ℕ) (b : Bytes (cell r)) where
   witness (Eight a) = write alone a (row (cell r) 736 8)
 
   alone-bytes : Bytes alone
-  alone-bytes = write-bytes (λ c. 0) (oldIn r .pc) (row (cell r) 720 4) (λ c. lit< tt) (row-bytes (cell r) 720 4 b)
+  alone-bytes = write-lt (λ c. 0) (oldIn r .pc) (row (cell r) 720 4) (λ c. lit< tt) (row-bytes (cell r) 720 4 b)
 
   witness-bytes : (t : Touch) → Bytes (witness t)
   witness-bytes Nothing = alone-bytes
-  witness-bytes (Eight a) = write-bytes alone a (row (cell r) 736 8) alone-bytes (row-bytes (cell r) 736 8 b)
+  witness-bytes (Eight a) = write-lt alone a (row (cell r) 736 8) alone-bytes (row-bytes (cell r) 736 8 b)
 
   witness-has : (t : Touch) → Has (witness t) t (oldEight r)
   unfolding oldEight
@@ -376,7 +350,7 @@ module _ (r : List ℕ) (b : Bytes (cell r)) where
       go true i k = big-ext 4 (write alone a (row (cell r) 736 8)) (cell r) (oldIn r .pc) (736 + oldIn r .pc % 8) (inside (eqb-true _ _ i)) ∙ eqb-true _ _ k
       go false i k =
           big-ext 4 (write alone a (row (cell r) 736 8)) alone (oldIn r .pc) (oldIn r .pc)
-          (λ j l. unwritten alone (cell r) a 736 8 (oldIn r .pc + j) (apart (oldIn r .pc) a j even z (eqb-false _ _ i) l))
+          (λ j l. write-outside alone a (row (cell r) 736 8) 8 (length-row (cell r) 736 8) (oldIn r .pc + j) (apart (oldIn r .pc) a j even z (eqb-false _ _ i) l))
           ∙ alone-fetches
 
   touch-even : (a : ℕ) → touchIn r ≡ Eight a → a % 8 ≡ 0

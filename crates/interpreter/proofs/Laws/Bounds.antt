@@ -253,7 +253,7 @@ ldr-lt rules m o t h k =
 
 -- ---- bytes written
 
-write-lt : (m : Memory) (a : ℕ) (vs : List ℕ) → ((b : ℕ) → m b < 256) → Bytes vs → (b : ℕ) → write m a vs b < 256
+pub write-lt : (m : Memory) (a : ℕ) (vs : List ℕ) → ((b : ℕ) → m b < 256) → Bytes vs → (b : ℕ) → write m a vs b < 256
 unfolding write
 write-lt m a vs h g b = pick-lt (leb a b) (pick-lt (ltb (b - a) (length vs)) (g (b - a)) (h b)) (h b)
 

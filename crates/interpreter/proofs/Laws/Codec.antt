@@ -6,7 +6,7 @@ use Prim.Native.Nat.{ℕ, zero, suc, _+_, _-_, _*_, _%_, _^_, _≤_, _<_}
 use native.Mathlib.Nat.{zero-add, add-zero, mod-eq-of-lt}
 use native.Mathlib.Decide.{decLt}
 use native.Mathlib.Omega.{arith}
-use lib.Dec.{eqb, leb, ltb}
+use lib.Dec.{eqb, ltb}
 use lib.ListN.{length, length-append, List·getD-eq-default}
 use borrow.Author.Tests.{le-ltb, le-leb, eq-eqb, eqb-true, leb-true, ltb-false}
 use Rattle.pages.specs.Bytes.{cell, row, zeros, big, bytesOf}
@@ -18,7 +18,7 @@ use Rattle.interpreter.specs.Layout.{eights, flag, numbersOf, lastOf, en
 use Rattle.interpreter.specs.declared.state.State.{State}
 use Rattle.interpreter.specs.declared.state.Cpu.{Cpu}
 use Rattle.interpreter.specs.declared.layout.Decoded.{Decoded}
-use Rattle.interpreter.proofs.Laws.Tests.{no-true}
+use Rattle.interpreter.proofs.Laws.Tests.{no-true, both}
 use Rattle.interpreter.proofs.Laws.Layout.{length-eights, length-encode, numbers-is, formed-is}
 
 -- ---- where the bytes of four runs stand
@@ -111,7 +111,7 @@ module _ (s : State) (f : Fits s) where
   key-back =
       row-ext 32 (cell (encode s)) (cell (s .key)) 320 0
       (λ j h. part-key s j h ∙ cell-row (cell (s .key)) 0 32 j h)
-      ∙ row-whole (s .key) 32 (f .key)
+      ∙ row-whole (s .key) 32 (f .typed .key)
 
   hint-back : eight (encode s) 312 ≡ s .hint
   unfolding numbersOf cpuOf
@@ -121,14 +121,14 @@ module _ (s : State) (f : Fits s) where
   unfolding decodeAt numbersOf cpuOf lastOf
   decoded-back =
       rw (
-        numbers-at (encode s) (s .regs) 0 32 (part-regs s) (f .regs) (f .values),
-        number 0 (omega arith) (f .pc),
-        number 1 (omega arith) (f .next),
-        number 2 (omega arith) (f .hi),
-        number 3 (omega arith) (f .lo),
-        number 4 (omega arith) (f .heap),
-        number 5 (omega arith) (f .step),
-        number 6 (omega arith) (f .offset),
+        numbers-at (encode s) (s .regs) 0 32 (part-regs s) (f .typed .regs) (f .typed .values),
+        number 0 (omega arith) (f .typed .pc),
+        number 1 (omega arith) (f .typed .next),
+        number 2 (omega arith) (f .typed .hi),
+        number 3 (omega arith) (f .typed .lo),
+        number 4 (omega arith) (f .typed .heap),
+        number 5 (omega arith) (f .typed .step),
+        number 6 (omega arith) (f .typed .offset),
         hint-back,
         key-back,
         part-last s 0,
@@ -158,10 +158,6 @@ module _ (s : State) (f : Fits s) where
 
 -- ---- decode, then encode
 
-both : (a b : Bool) → (a && b) ≡ true → (a ≡ true) × (b ≡ true)
-both true b e = (refl, e)
-both false b e = no-true (sym e)
-
 neither : (a b : Bool) → not (a || b) ≡ true → (a ≡ false) × (b ≡ false)
 neither false false e = (refl, refl)
 neither true b e = no-true (sym e)
@@ -177,8 +173,8 @@ pub record Formed (b : List ℕ) (k : ℕ) : Type 0 where
 pub formed-out : (b : List ℕ) (k : ℕ) → formedAt b k ≡ true → Formed b k
 unfolding formedAt formless cpuOf decodeAt
 formed-out b k e =
-    let p = both (leb (cell b (k + 352)) 1 && eqb (big 5 (cell b) (k + 355)) 0) (not (ltb largestRules (cell b (k + 354)) || ltb hintRoom (eight b (k + 312)))) e in
-    let q = both (leb (cell b (k + 352)) 1) (eqb (big 5 (cell b) (k + 355)) 0) (p .0) in
+    let p = both e in
+    let q = both (p .0) in
     let r = neither (ltb largestRules (cell b (k + 354))) (ltb hintRoom (eight b (k + 312))) (p .1) in
     record { exited = leb-true _ _ (q .0); spare = eqb-true _ _ (q .1); rules = ltb-false _ _ (r .0); hint = ltb-false _ _ (r .1) }
 
@@ -196,7 +192,7 @@ pub decode-out : (b : List ℕ) (s : State) → decodeDef b ≡ valid s → Out 
 unfolding decodeDef
 decode-out b s e =
     let p = valid-out (eqb (length b) 360 && formedAt b 0) (decodeAt b 0) s e in
-    let q = both (eqb (length b) 360) (formedAt b 0) (p .0) in
+    let q = both (p .0) in
     record { long = eqb-true _ _ (q .0); formed = formed-out b 0 (q .1); state = p .1 }
 
 -- numbers that were read, written back
@@ -268,19 +264,22 @@ pub fits-decoded : (b : List ℕ) → Bytes b → Formed b 0 → Fits (decodeAt 
 unfolding decodeAt
 fits-decoded b small f =
     record {
-      regs = length-numbers b 0 32;
-      values = values;
-      pc = bound 256;
-      next = bound 264;
-      hi = bound 272;
-      lo = bound 280;
-      heap = bound 288;
-      step = bound 296;
-      offset = bound 304;
+      typed =
+          record {
+            regs = length-numbers b 0 32;
+            values = values;
+            pc = bound 256;
+            next = bound 264;
+            hi = bound 272;
+            lo = bound 280;
+            heap = bound 288;
+            step = bound 296;
+            offset = bound 304;
+            key = length-row (cell b) 320 32;
+            bytes = row-bytes (cell b) 320 32 small;
+            code = small 353;
+          };
       hint = f .hint;
-      key = length-row (cell b) 320 32;
-      bytes = row-bytes (cell b) 320 32 small;
-      code = small 353;
       rules = f .rules;
     }
   where
@@ -319,7 +318,7 @@ last-bytes c g h (suc (suc (suc k))) = row-bytes (λ _. 0) 0 5 (λ i. omega arit
 
 tail : (s : State) → Fits s → Bytes (lastOf (cpuOf s))
 unfolding cpuOf
-tail s f = last-bytes (cpuOf s) (f .code) (omega (arith, f .rules))
+tail s f = last-bytes (cpuOf s) (f .typed .code) (omega (arith, f .rules))
 
 pub encode-bytes : (s : State) → Fits s → Bytes (encode s)
 unfolding encode
@@ -327,7 +326,7 @@ encode-bytes s f =
     append-bytes (eights (s .regs) 32 ++ eights (numbersOf (cpuOf s)) 8 ++ row (cell (s .key)) 0 32) (lastOf (cpuOf s))
     (append-bytes (eights (s .regs) 32 ++ eights (numbersOf (cpuOf s)) 8) (row (cell (s .key)) 0 32)
     (append-bytes (eights (s .regs) 32) (eights (numbersOf (cpuOf s)) 8) (eights-bytes (s .regs) 32) (eights-bytes (numbersOf (cpuOf s)) 8))
-    (row-bytes (cell (s .key)) 0 32 (f .bytes)))
+    (row-bytes (cell (s .key)) 0 32 (f .typed .bytes)))
     (tail s f)
 
 -- ---- what is decoded at a place goes by its 360 bytes

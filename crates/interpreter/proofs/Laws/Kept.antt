@@ -28,7 +28,7 @@ use Rattle.interpreter.specs.declared.effect.Effect.the-variants.{Refuse
 use Rattle.interpreter.specs.declared.effect.Touch.{Touch}
 use Rattle.interpreter.specs.declared.effect.Touch.the-variants.{Nothing, Eight}
 use Rattle.interpreter.specs.declared.effect.Refusal.{Refusal}
-use Rattle.interpreter.specs.declared.effect.Refusal.the-variants.{NoRoom}
+use Rattle.interpreter.specs.declared.effect.Refusal.the-variants.{BadMachine, NoRoom}
 use Rattle.interpreter.specs.declared.state.Cpu.{Cpu}
 use Rattle.interpreter.specs.declared.step.Answer.{Answer}
 use Rattle.interpreter.specs.declared.step.Answer.the-variants.{Stepped, Hint, Exited}
@@ -42,11 +42,12 @@ use Rattle.interpreter.specs.Machine.{Machine, reg, counted, changed, on
 use Rattle.interpreter.specs.Inputs.{entryOf, inside, partOf}
 use Rattle.interpreter.specs.Hints.{textOf, heard}
 use Rattle.interpreter.specs.Plan.{View, Store, keeps, stores, Deed, Plan, refuse, does, storing, changing, a1, a2, place, callIn, replying, staying, exiting, keying, wrote, writing, hinted, hearing, together, hinting, read, readingIn, readingAt, reading, calling, touchOf, planned, executing, wordOf, plan}
-use Rattle.interpreter.specs.Step.{left, landed, putting, lay, settled, viewOf, withCpu, working, advance, stepDef}
+use Rattle.interpreter.specs.Step.{left, refused, landed, putting, lay, settled, viewOf, withCpu, working, advance, stepDef}
 use Rattle.interpreter.proofs.Laws.Tests.{no-true}
 use Rattle.interpreter.proofs.Laws.Paging.{isUsed}
 use Rattle.interpreter.proofs.Laws.Dests.{touchedAt, touching-all}
 use Rattle.interpreter.proofs.Laws.Hints.{out-whole}
+use Rattle.interpreter.proofs.Laws.Bounds.{wrapped}
 
 -- ---- where a store goes
 
@@ -64,12 +65,9 @@ addressIn (stores a x) = a
 pub cut-aligned : (a : ℕ) → a < 2 ^ 64 → Aligned (a / 8 * 8)
 cut-aligned a h = (omega arith, omega arith)
 
-sum-small : (n : ℕ) → n % 2 ^ 64 < 2 ^ 64
-sum-small n = omega arith
-
 pub touch-aligned : (r : List ℕ) (w : ℕ) → Aligned (touchedAt (touchOf r w))
 unfolding touchOf touchDef
-touch-aligned r w = touching-all Aligned zero-aligned (decode w) (addressOf w (reg r (rsOf w)) / 8 * 8) (cut-aligned (addressOf w (reg r (rsOf w))) (sum-small _))
+touch-aligned r w = touching-all Aligned zero-aligned (decode w) (addressOf w (reg r (rsOf w)) / 8 * 8) (cut-aligned (addressOf w (reg r (rsOf w))) (wrapped _))
 
 storing-aligned : (t : Touch) (e : Change) → Aligned (touchedAt t) → Aligned (addressIn (storing t e))
 storing-aligned Nothing e h = zero-aligned
@@ -323,6 +321,11 @@ step-formed x d m e f = rw e (go (m .cpu .exited))
     go : (b : Bool) → Formed (cond b (left (Exited (m .cpu .code)) m false) (working x d (withCpu m (counted (m .cpu))) plan) .machine)
     go true = f
     go false = work-formed x d (withCpu m (counted (m .cpu))) (count-formed m f)
+
+-- 1 changes nothing
+pub bad-step : (x d : List ℕ) (m : Machine) → bad m ≡ true → stepDef x d m ≡ refused m BadMachine
+unfolding stepDef
+bad-step x d m e = rw e
 
 -- a machine that is not refused with 1 stays so
 pub step-keeps-good : (x d : List ℕ) (m : Machine) → bad m ≡ false → bad (stepDef x d m .machine) ≡ false

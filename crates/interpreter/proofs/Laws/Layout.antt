@@ -106,10 +106,14 @@ put-parts b at c r k e1 e2 e3 e4 =
     put-four b at (eights r 32) (eights (numbersOf c) 8) (row (cell k) 0 32) (lastOf c) 256 64 32 (length-eights r 32) (length-eights (numbersOf c) 8) (length-row (cell k) 0 32)
     e1 e2 e3 e4
 
+-- a state is its numbers, registers and key
+pub state-parts : (s : State) → stateOf (cpuOf s) (s .regs) (s .key) ≡ s
+unfolding stateOf cpuOf
+state-parts s = refl
+
 -- a whole state into as many bytes
 pub put-whole : (b : List ℕ) (s : State) {c : Cpu} {d : List ℕ} → length b ≡ 360 → c ≡ cpuOf s → d ≡ sets b 0 (encode (stateOf c (s .regs) (s .key))) → d ≡ encode s
-unfolding stateOf cpuOf
-put-whole b s h p e = e ∙ rw p (sets-whole b (encode s) (length-encode s ∙ sym h))
+put-whole b s h p e = e ∙ rw (p, state-parts s) (sets-whole b (encode s) (length-encode s ∙ sym h))
 
 -- ---- what is read
 

@@ -2,15 +2,14 @@
 use mathlib.Core.Path.{_≡_, refl, sym, ap, subst, _∙_}
 use mathlib.Core.Bool.{Bool, true, false, cond}
 use mathlib.Core.List.{List, []}
-use Prim.Native.Nat.{ℕ, _+_, _^_, _≤_, _<_}
-use native.Mathlib.Omega.{arith}
+use Prim.Native.Nat.{ℕ, _^_, _<_}
 use lib.Dec.{eqb}
 use lib.ListN.{length, set, length-set}
 use Rattle.pages.specs.Bytes.{big, bytesOf}
 use Rattle.pages.specs.Memory.{Memory, write}
-use Rattle.pages.proofs.Laws.Runs.{Where, below, above, among, where-is, length-row}
-use Rattle.pages.proofs.Laws.Numbers.{length-bytes, big-ext}
-use Rattle.pages.proofs.Laws.Meaning.{write-below, write-above, write-among}
+use Rattle.pages.proofs.Laws.Runs.{length-row}
+use Rattle.pages.proofs.Laws.Numbers.{length-bytes}
+use Rattle.pages.proofs.Laws.Meaning.{write-outside, write-number}
 use Rattle.interpreter.specs.OpcodeMap.{decode}
 use Rattle.interpreter.specs.Kernel.{kernelDef}
 use Rattle.interpreter.specs.declared.effect.Ins.{Ins}
@@ -29,7 +28,7 @@ use Rattle.interpreter.specs.Plan.{View, Store, keeps, stores, Deed, Pla
 use Rattle.interpreter.specs.Recording.{calls, callWide, callTouch, wide, touched}
 use Rattle.interpreter.specs.Ideal.{ideal, idealView, counting, follow, remember, idealStep}
 use Rattle.interpreter.specs.Runs.{isRefused}
-use Rattle.interpreter.specs.Shown.{effectShown, planShown}
+use Rattle.interpreter.specs.Shown.{Outside, effectShown, planShown}
 use Rattle.interpreter.proofs.Laws.Tests.{no-true}
 use Rattle.interpreter.proofs.Laws.Dests.{calls-call, calls-done, touchedAt}
 use Rattle.interpreter.proofs.Laws.Kept.{Aligned, zero-aligned, cut-aligned, touch-aligned}
@@ -170,29 +169,12 @@ ideal-fetches x d c r k m h w e f = rw (e, f)
 
 -- ---- what a store leaves
 
-abbrev pub Outside : Touch → ℕ → Type 0
-Outside Nothing b = Unit {0}
-Outside (Eight a) b = (a ≤ b → b < a + 8 → ⊥)
-
-write-outside : (m : Memory) (a v b : ℕ) → (a ≤ b → b < a + 8 → ⊥) → write m a (bytesOf 8 v) b ≡ m b
-write-outside m a v b h = go (where-is a 8 b)
-  where
-    go : Where a 8 b → write m a (bytesOf 8 v) b ≡ m b
-    go (below l) = write-below m a (bytesOf 8 v) b l
-    go (above l) = write-above m a (bytesOf 8 v) b (rw (length-bytes 8 v) l)
-    go (among l g) = absurd (h l g)
-
 pub remember-outside : (m : Memory) (t : Touch) (s : Store) → Goes t s → (b : ℕ) → Outside t b → remember m s b ≡ m b
 remember-outside m t keeps g b o = refl
-remember-outside m t (stores a v) g b o = write-outside m a v b (rw g at o)
+remember-outside m t (stores a v) g b o = write-outside m a (bytesOf 8 v) 8 (length-bytes 8 v) b (rw g at o)
 
 write-same : (m n : Memory) (a v : ℕ) → big 8 (write m a (bytesOf 8 v)) a ≡ big 8 (write n a (bytesOf 8 v)) a
-write-same m n a v = big-ext 8 (write m a (bytesOf 8 v)) (write n a (bytesOf 8 v)) a a (λ j l. go j l)
-  where
-    go : (j : ℕ) → j < 8 → write m a (bytesOf 8 v) (a + j) ≡ write n a (bytesOf 8 v) (a + j)
-    go j l =
-        write-among m a (bytesOf 8 v) (a + j) (omega arith) (rw (length-bytes 8 v) (omega arith))
-        ∙ sym (write-among n a (bytesOf 8 v) (a + j) (omega arith) (rw (length-bytes 8 v) (omega arith)))
+write-same m n a v = write-number m a (bytesOf 8 v) 8 (length-bytes 8 v) ∙ sym (write-number n a (bytesOf 8 v) 8 (length-bytes 8 v))
 
 pub remember-same : (m n : Memory) (t : Touch) (s : Store) → Goes t s → eightAt m t ≡ eightAt n t → eightAt (remember m s) t ≡ eightAt (remember n s) t
 remember-same m n t keeps g e = e

@@ -33,6 +33,7 @@ use Rattle.interpreter.specs.Recording.{calls, callWide, callTouch, wide
 use Rattle.interpreter.specs.Parts.{seenCall, seen, recordingAs}
 use Rattle.interpreter.proofs.Laws.Dests.{calls-call, calls-done, calls-refused, touchedAt, touch-even}
 use Rattle.interpreter.proofs.Laws.Plans.{step-misaligned}
+use Rattle.interpreter.proofs.Laws.Layout.{state-parts}
 use Rattle.interpreter.proofs.Laws.Records.{record-whole}
 
 -- ---- what is seen of a step
@@ -86,14 +87,9 @@ touched-even c r w {s} y a e = even-by (calls (decode w)) a (reg r 5) (callIn c 
 
 -- ---- the record
 
--- a state is its numbers, registers and key
-state-parts : (s : State) {c : Cpu} → c ≡ cpuOf s → encode (stateOf c (s .regs) (s .key)) ≡ encode s
-unfolding encode cpuOf stateOf
-state-parts s y = rw y
-
 pub record-filled : (b : List ℕ) (s n : State) (w : ℕ) (t : Touch) (x y : ℕ) {c e : Cpu} {d1 d2 d3 : List ℕ} → length b ≡ 752 → c ≡ cpuOf s → d1 ≡ sets b 0 (encode (stateOf c (s .regs) (s .key)))
     → e ≡ cpuOf n → d2 ≡ sets d1 360 (encode (stateOf e (n .regs) (n .key))) → d3 ≡ sets d2 720 (restOf w t x y) → d3 ≡ recordOf s n w t x y
-record-filled b s n w t x y l y1 z1 y2 z2 z3 = z3 ∙ rw (z2, z1, state-parts s y1, state-parts n y2) (record-whole b s n w t x y l)
+record-filled b s n w t x y l y1 z1 y2 z2 z3 = z3 ∙ rw (z2, z1, y1, y2, state-parts s, state-parts n) (record-whole b s n w t x y l)
 
 module _ (s : State) (u : ℕ) (p h o b : List ℕ) (w : ℕ) (t : Touch) {k l : Left} (y : k ≡ l) where
   pub seen-counts : {v z : ℕ} {e : List ℕ} → k .counts ≡ true → v ≡ eightAt (byteAt p u) t → z ≡ eightAt (memoryOf (k .machine)) t

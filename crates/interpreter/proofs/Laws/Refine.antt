@@ -39,8 +39,8 @@ use Rattle.interpreter.specs.Plan.{View, Store, keeps, stores, Deed, Pla
 use Rattle.interpreter.specs.Step.{Left, left, landed, putting, lay, settled, viewOf, withCpu, working, advance, stepDef}
 use Rattle.interpreter.specs.Ideal.{ideal, Outcome, outcome, idealView, remember, holding, follow, idealStep, meant, sparing, spared, Follows}
 use Rattle.interpreter.proofs.Laws.Tests.{no-true}
-use Rattle.interpreter.proofs.Laws.Hints.{held-cell}
-use Rattle.interpreter.proofs.Laws.Kept.{Aligned, addressIn, Good, Sound, deed-good, Formed, formed, count-formed, view-sound}
+use Rattle.interpreter.proofs.Laws.Hints.{room-fits, held-cell}
+use Rattle.interpreter.proofs.Laws.Kept.{Aligned, addressIn, Good, Sound, deed-good, Formed, formed, view-sound, count-formed, bad-step}
 
 -- ---- the two plans
 
@@ -121,15 +121,11 @@ module _ (c : Cpu) (r k : List ℕ) (m : Memory) (h x d : List ℕ) where
     unfolding plan executing
     plan-agrees = planned-agrees (touchOf r (wordOf free)) _
 
-room-small : (h : List ℕ) → roomOf h ≤ 65536
-unfolding roomOf
-room-small h = omega arith
-
 view-agrees : (x d : List ℕ) (m : Machine) → Agree (plan (viewOf x d m)) (plan (idealView x d (meant m)))
 unfolding viewOf idealView meant
 view-agrees x d m =
     plan-agrees (m .cpu) (m .regs) (m .key) (byteAt (m .pages) (m .used)) (row (cell (m .hint)) 0 (m .cpu .hint)) x d (roomOf (m .hint)) (λ n. leb n (length (m .output)))
-    (room-small (m .hint))
+    (room-fits (m .hint) (roomOf (m .hint)) (omega arith) .0)
 
 -- ---- stores
 
@@ -258,14 +254,10 @@ spared-of (Hint count) f g = refl
 spared-of (Exited code) f g = refl
 spared-of (Refused n) f g = sparing-of n f g
 
-bad-refused : (x d : List ℕ) (m : Machine) → bad m ≡ true → stepDef x d m .answer ≡ Refused BadMachine
-unfolding stepDef
-bad-refused x d m e = rw e
-
 pub refines-unless : (x d : List ℕ) (m : Machine) → ((i : ℕ) → reg (m .regs) i < 2 ^ 64) → (stepDef x d m .answer ≡ Refused BadMachine → ⊥)
     → (stepDef x d m .answer ≡ Refused MemoryFull → ⊥) → (stepDef x d m .answer ≡ Refused NoRoom → ⊥) → Follows x d m
 refines-unless x d m small f g h = go (bad m) refl
   where
     go : (b : Bool) → bad m ≡ b → Follows x d m
-    go true e = absurd (f (bad-refused x d m e))
+    go true e = absurd (f (ap (λ (l : Left). l .answer) (bad-step x d m e)))
     go false e = refines x d m e small (spared-of (stepDef x d m .answer) g h)

@@ -36,17 +36,9 @@ use Rattle.interpreter.specs.Runs.{Ran, ran, isStepped, isRefused, tally
 use Rattle.interpreter.specs.Parts.{reached}
 use Rattle.interpreter.proofs.Laws.Kept.{Each, step-keeps-good}
 use Rattle.interpreter.proofs.Laws.Steps.{bad-as}
-use Rattle.interpreter.proofs.Laws.Tests.{no-true}
+use Rattle.interpreter.proofs.Laws.Tests.{no-true, on, off}
 
 -- ---- the loop: the whole run is what is counted so far and the rest
-
-not-false : (t : Bool) → not t ≡ false → t ≡ true
-not-false true e = refl
-not-false false e = sym e
-
-not-true : (t : Bool) → not t ≡ true → t ≡ false
-not-true true e = sym e
-not-true false e = refl
 
 more-none : (r : Ran) → more 0 r ≡ r
 more-none r = ap (ran (r .answer) (r .machine)) (omega arith)
@@ -78,7 +70,7 @@ module _ (x d : List ℕ) where
     pub run-turn : (l : Left) {b : Bool} → bad m ≡ false → count < budget → l ≡ advance x d m → b ≡ isStepped (l .answer) → not b ≡ false
         → w ≡ more (count + 1) (runDef x d (budget - (count + 1)) (l .machine))
     run-turn l {b} e h q t s =
-        let y : isStepped (l .answer) ≡ true = sym t ∙ not-false b s in
+        let y : isStepped (l .answer) ≡ true = sym t ∙ on b s in
         inv
         ∙ ap (more count) (run-good (budget - count) m l (omega arith) e q ∙ rw y)
         ∙ more-more count 1 (runDef x d (budget - count - 1) (l .machine))
@@ -86,7 +78,7 @@ module _ (x d : List ℕ) where
 
     pub run-last : (l : Left) {b : Bool} → bad m ≡ false → count < budget → l ≡ advance x d m → b ≡ isStepped (l .answer) → not b ≡ true → more count (ended l) ≡ w
     run-last l {b} e h q t s =
-        let y : isStepped (l .answer) ≡ false = sym t ∙ not-true b s in
+        let y : isStepped (l .answer) ≡ false = sym t ∙ off b s in
         sym (inv ∙ ap (more count) (run-good (budget - count) m l (omega arith) e q ∙ rw y))
 
     pub run-spent : budget ≤ count → ran Stepped m count ≡ w

@@ -2,15 +2,14 @@
 use mathlib.Core.Path.{_≡_, refl, sym, ap, _∙_}
 use mathlib.Core.Bool.{Bool, true, false, cond}
 use mathlib.Core.List.{List, []}
-use Prim.Native.Nat.{ℕ, _+_, _-_, _*_, _/_, _%_, _^_, _<_}
+use Prim.Native.Nat.{ℕ, _*_, _/_, _%_, _^_, _<_}
 use native.Mathlib.Nat.{mod-eq-of-lt}
-use native.Mathlib.Omega.{arith}
 use lib.Dec.{eqb}
 use borrow.Author.Tests.{eqb-true}
-use Rattle.pages.specs.Bytes.{cell, big, bytesOf}
+use Rattle.pages.specs.Bytes.{big, bytesOf}
 use Rattle.pages.specs.Memory.{Memory, write}
-use Rattle.pages.proofs.Laws.Numbers.{length-bytes, big-ext, big-bytes}
-use Rattle.pages.proofs.Laws.Meaning.{write-among}
+use Rattle.pages.proofs.Laws.Numbers.{length-bytes, big-bytes}
+use Rattle.pages.proofs.Laws.Meaning.{write-number}
 use Rattle.interpreter.specs.Isa.{Instruction, alu, imm, hilo, load, store, conditional, branch, jump, other, reserved, reservedBranch}
 use Rattle.interpreter.specs.OpcodeMap.{decode}
 use Rattle.interpreter.specs.Kernel.{does, kernelDef, touching, touchDef}
@@ -41,12 +40,7 @@ use Rattle.interpreter.proofs.Laws.Dests.{calls-call, calls-done}
 -- ---- eight bytes written and read back
 
 pub write-back : (m : Memory) (a v : ℕ) → v < 2 ^ 64 → big 8 (write m a (bytesOf 8 v)) a ≡ v
-write-back m a v h = big-ext 8 (write m a (bytesOf 8 v)) (cell (bytesOf 8 v)) a 0 written ∙ big-bytes 8 v ∙ mod-eq-of-lt h
-  where
-    written : (k : ℕ) → k < 8 → write m a (bytesOf 8 v) (a + k) ≡ cell (bytesOf 8 v) (0 + k)
-    written k l =
-        let e : a + k - a ≡ 0 + k = omega arith in
-        write-among m a (bytesOf 8 v) (a + k) (omega arith) (rw (length-bytes 8 v) (omega arith)) ∙ ap (cell (bytesOf 8 v)) e
+write-back m a v h = write-number m a (bytesOf 8 v) 8 (length-bytes 8 v) ∙ big-bytes 8 v ∙ mod-eq-of-lt h
 
 -- ---- the parts of the code
 

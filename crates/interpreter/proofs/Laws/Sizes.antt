@@ -47,7 +47,7 @@ use Rattle.interpreter.specs.Recording.{stateIn}
 use Rattle.interpreter.proofs.Laws.Bytes.{big-lt}
 use Rattle.interpreter.proofs.Laws.Codec.{append-bytes}
 use Rattle.interpreter.proofs.Laws.Hints.{room-fits}
-use Rattle.interpreter.proofs.Laws.Kept.{Each, Formed, formed, step-keeps-good}
+use Rattle.interpreter.proofs.Laws.Kept.{Each, Formed, formed, step-keeps-good, bad-step}
 use Rattle.interpreter.proofs.Laws.Bounds.{wrapped, Small, Bounded, kernel-bounded}
 
 -- ---- what holds of every step
@@ -379,42 +379,42 @@ step-sized x d m b z =
 fits-sized : (m : Machine) → Fits (stateIn m) → SizedMachine m
 unfolding stateOf
 fits-sized m f =
+    let t = f .typed in
     record {
-      cpu = record { pc = f .pc; next = f .next; hi = f .hi; lo = f .lo; heap = f .heap; step = f .step; offset = f .offset; code = f .code };
-      regs = record { long = f .regs; values = f .values };
-      key = record { long = f .key; bytes = f .bytes };
+      cpu = record { pc = t .pc; next = t .next; hi = t .hi; lo = t .lo; heap = t .heap; step = t .step; offset = t .offset; code = t .code };
+      regs = record { long = t .regs; values = t .values };
+      key = record { long = t .key; bytes = t .bytes };
     }
 
 sized-fits : (m : Machine) → SizedMachine m → Formed m → Fits (stateIn m)
 unfolding stateOf
 sized-fits m z f =
     record {
-      regs = z .regs .long;
-      values = z .regs .values;
-      pc = z .cpu .pc;
-      next = z .cpu .next;
-      hi = z .cpu .hi;
-      lo = z .cpu .lo;
-      heap = z .cpu .heap;
-      step = z .cpu .step;
-      offset = z .cpu .offset;
+      typed =
+          record {
+            regs = z .regs .long;
+            values = z .regs .values;
+            pc = z .cpu .pc;
+            next = z .cpu .next;
+            hi = z .cpu .hi;
+            lo = z .cpu .lo;
+            heap = z .cpu .heap;
+            step = z .cpu .step;
+            offset = z .cpu .offset;
+            key = z .key .long;
+            bytes = z .key .bytes;
+            code = z .cpu .code;
+          };
       hint = room-fits (m .hint) (m .cpu .hint) (f .hint) .0;
-      key = z .key .long;
-      bytes = z .key .bytes;
-      code = z .cpu .code;
       rules = f .rules;
     }
-
-refused-same : (x d : List ℕ) (m : Machine) → bad m ≡ true → stepDef x d m .machine ≡ m
-unfolding stepDef
-refused-same x d m e = rw e
 
 -- every step, refused or not, keeps its state within what 360 bytes can say
 pub step-fits : (x d : List ℕ) (m : Machine) → Bytes (m .pages) → Fits (stateIn m) → Fits (stateIn (stepDef x d m .machine))
 step-fits x d m b f = go (bad m) refl
   where
     go : (t : Bool) → bad m ≡ t → Fits (stateIn (stepDef x d m .machine))
-    go true e = rw (refused-same x d m e) f
+    go true e = rw (bad-step x d m e) f
     go false e =
         let n : Machine = stepDef x d m .machine in
         sized-fits n (step-sized x d m b (fits-sized m f)) (formed n (step-keeps-good x d m e))

@@ -1,6 +1,6 @@
 -- Tests, and sums that do not wrap.
-use mathlib.Core.Path.{_≡_, sym, ap, _∙_}
-use mathlib.Core.Bool.{true, false, cond}
+use mathlib.Core.Path.{_≡_, refl, sym, ap, _∙_}
+use mathlib.Core.Bool.{Bool, true, false, _&&_, not, cond}
 use Prim.Native.Nat.{ℕ, _+_, _-_, _≤_, _<_}
 use native.Mathlib.Nat.{add-comm}
 use native.Mathlib.Decide.{decLt}
@@ -11,6 +11,18 @@ use Rattle.pages.proofs.Laws.Places.{leb-moved}
 
 pub no-true : {A : Type 0} → true ≡ false → A
 no-true e = let z : _≡_ {A = ℕ} 0 1 = ap (λ t. cond t 0 1) e in absurd (omega arith)
+
+pub both : {a b : Bool} → (a && b) ≡ true → (a ≡ true) × (b ≡ true)
+both {a = true} {b = b} e = (refl, e)
+both {a = false} {b = b} e = no-true (sym e)
+
+pub on : (b : Bool) → not b ≡ false → b ≡ true
+on true e = refl
+on false e = no-true e
+
+pub off : (b : Bool) → not b ≡ true → b ≡ false
+off true e = no-true (sym e)
+off false e = refl
 
 -- a sum that does not wrap, as a difference
 pub leb-rest : (l s n : ℕ) → s ≤ l → leb n (l - s) ≡ leb (s + n) l

@@ -61,6 +61,22 @@ module _ (m : Memory) (a : ℕ) (vs : List ℕ) (b : ℕ) where
       let l : b - a < length vs = omega arith in
       rw (le-leb _ _ k, lt-ltb _ _ l)
 
+-- what is written is n bytes long
+module _ (m : Memory) (a : ℕ) (vs : List ℕ) (n : ℕ) (long : length vs ≡ n) where
+  -- every other byte stays
+  pub write-outside : (b : ℕ) → (a ≤ b → b < a + n → ⊥) → write m a vs b ≡ m b
+  write-outside b h = go (where-is a n b)
+    where
+      go : Where a n b → write m a vs b ≡ m b
+      go (below l) = write-below m a vs b l
+      go (above l) = write-above m a vs b (rw long l)
+      go (among l g) = absurd (h l g)
+
+  -- the number that they are is read there
+  pub write-number : big n (write m a vs) a ≡ big n (cell vs) 0
+  write-number =
+      big-ext n (write m a vs) (cell vs) a 0 (λ k l. write-among m a vs (a + k) (omega arith) (rw long (omega arith)) ∙ ap (cell vs) (omega arith))
+
 -- ---- a store in the body of a record
 
 -- no number changes
@@ -91,12 +107,7 @@ module _ (p : List ℕ) (used i a : ℕ) (vs : List ℕ) (fits : a % 4096 + leng
 
       -- a byte of another page is not among the bytes written
       other : (b / 4096 ≡ a / 4096 → ⊥) → write (byteAt p used) a vs b ≡ byteAt p used b
-      other n = go (where-is a (length vs) b)
-        where
-          go : Where a (length vs) b → write (byteAt p used) a vs b ≡ byteAt p used b
-          go (below k) = write-below (byteAt p used) a vs b k
-          go (above k) = write-above (byteAt p used) a vs b k
-          go (among k m) = absurd (n (omega arith))
+      other n = write-outside (byteAt p used) a vs (length vs) refl b (λ k m. n (omega arith))
 
       room : base + length vs ≤ length p
       room = let r = found-at p used (a / 4096) i found in omega arith
@@ -225,9 +236,8 @@ get-means n p used a h l = rw (eq-eqb _ _ h, le-ltb _ _ l)
 pub load-back : (n : ℕ) (p : List ℕ) (used a v u : ℕ) (q : List ℕ) → a % 4096 + n ≤ 4096 → a < 2 ^ 64 → setDef n p used a v ≡ stored (Used u) q
     → big n (byteAt q u) a ≡ v % 256 ^ n
 load-back n p used a v u q fits small s =
-    let l = length-bytes n v in
-    big-ext n (byteAt q u) (cell (bytesOf n v)) a 0
-    (λ k h. set-means n p used a v u q fits small s (a + k) ∙ write-among (byteAt p used) a (bytesOf n v) (a + k) (omega arith) (omega arith) ∙ ap (cell (bytesOf n v)) (omega arith))
+    big-ext n (byteAt q u) (write (byteAt p used) a (bytesOf n v)) a a (λ k h. set-means n p used a v u q fits small s (a + k))
+    ∙ write-number (byteAt p used) a (bytesOf n v) n (length-bytes n v)
     ∙ big-bytes n v
 
 -- the reader gives byte i of the memory at address + i modulo 2^64

@@ -1,7 +1,7 @@
 use mathlib.Core.Bool.{Bool·beq}
 use borrow.Author.Tests.{eq-eqb, ne-eqb}
 use Rattle.checker.specs.Check.{sameNumbers}
-use Rattle.checker.proofs.Laws.Same.{on, off}
+use Rattle.interpreter.proofs.Laws.Tests.{on, off}
 use Rattle.checker.proofs.same.same_numbers.Statement.{statement}
 use Rattle.checker.proofs.same.same_numbers.Tie as tie
 
