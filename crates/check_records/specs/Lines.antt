@@ -1,6 +1,5 @@
 -- What is printed of step records: a line for each record of 752 bytes, and one for a short remainder.
 use Prim.Native.Nat.{ℕ, zero, suc, _+_, _*_, _/_, _%_, _^_}
-use mathlib.Core.Path.{_≡_}
 use mathlib.Core.Bool.{cond}
 use mathlib.Core.List.{List, [], _∷_, _++_}
 use lib.Dec.{leb, ltb}
@@ -73,8 +72,3 @@ printed n o = record { count = n; out = o }
 -- the lines at the front of the buffer, where it has 32 bytes for each; otherwise it stays
 unfoldable pub printedDef : ℕ → List ℕ → List ℕ → Printed
 printedDef from b o = cond (leb (32 * countOf b) (length o)) (printed (length (linesOf from b)) (sets o 0 (linesOf from b))) (printed 0 o)
-
--- a text at a place of a buffer, which then is another, and the place behind it
-pub record Puts (o : List ℕ) (at : ℕ) (text : List ℕ) (next : ℕ) (exit : List ℕ) : Type 0 where
-  pub place : next ≡ at + length text
-  pub bytes : exit ≡ sets o at text

@@ -4,10 +4,12 @@ ghost use Prim.Native.Nat.{_+_, _*_, _≤_, _<_};
 ghost use lib.ListN.{length};
 ghost use Rattle.checker.specs.declared.verdict.Verdict.the-variants.{Refused};
 ghost use Rattle.checker.specs.Check.{checkDef};
-ghost use Rattle.check_records.specs.Lines.{decimal, said, line as lineOf, recordAt, lineAt, after as afterDef, printed, printedDef, Puts};
+ghost use Rattle.check_records.specs.Lines.{decimal, said, line as lineOf, recordAt, lineAt, after as afterDef, printed, printedDef};
+ghost use Rattle.check_records.specs.Parts.{Puts};
 use checker::check;
 use checker::verdict::Fault;
 use checker::verdict::Verdict;
+use interpreter::record::Record;
 
 // The sizes of what is read and written.
 pub struct Lines {
@@ -16,7 +18,7 @@ pub struct Lines {
 
 impl Lines {
     // How many bytes a step record has.
-    pub const RECORD: usize = 752;
+    pub const RECORD: usize = Record::SIZE;
 
     // The most bytes of a line: 20 digits, a space, `refused 27` and the line end.
     pub const LINE: usize = 32;

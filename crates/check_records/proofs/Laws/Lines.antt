@@ -9,7 +9,8 @@ use lib.ListN.{length, take, drop, length-append, length-drop}
 use lib.Seq.{sets, length-sets, sets-eq, take-append-seam, take-all, take-append-le, drop-append-le, drop-append-add}
 use borrow.Author.Tests.{le-leb, lt-leb}
 use Rattle.checker.specs.Check.{checkDef}
-use Rattle.check_records.specs.Lines.{recordAt, positionAt, lineAt, linesTo, countOf, linesOf, after, Printed, printed, printedDef, Puts}
+use Rattle.check_records.specs.Lines.{recordAt, positionAt, lineAt, linesTo, countOf, linesOf, after, Printed, printed, printedDef}
+use Rattle.check_records.specs.Parts.{Puts}
 use Rattle.check_records.proofs.Laws.Puts.{puts-then}
 use Rattle.check_records.proofs.Laws.Decimal.{length-line}
 

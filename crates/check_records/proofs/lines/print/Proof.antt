@@ -1,7 +1,8 @@
 use Prim.Native.Nat.{_-_, _≤_}
 use native.Mathlib.Omega.{arith}
 use borrow.Author.Needs.{needs}
-use Rattle.check_records.specs.Lines.{linesTo, Puts}
+use Rattle.check_records.specs.Lines.{linesTo}
+use Rattle.check_records.specs.Parts.{Puts}
 use Rattle.check_records.proofs.Laws.Puts.{puts-length}
 use Rattle.check_records.proofs.Laws.Lines.{length-lines, no-lines, more-lines, prints, prints-none}
 use Rattle.check_records.proofs.lines.print.Statement.{statement}
