@@ -19,8 +19,10 @@ use Rattle.interpreter.specs.Recording.{wide, stateIn, wordIn, recordFrom, reco
 use Rattle.interpreter.specs.Runs.{Ran, ran, ended, runDef}
 use Rattle.interpreter.proofs.Laws.Tests.{no-true}
 use Rattle.pages.proofs.Laws.Runs.{Bytes}
+use Rattle.interpreter.proofs.Laws.Hints.{room-fits}
+use Rattle.interpreter.proofs.Laws.Kept.{bad-step}
+use Rattle.interpreter.proofs.Laws.Layout.{state-parts}
 use Rattle.interpreter.proofs.Laws.Codec.{decode-out, encode-decode}
-use Rattle.rocchivanda.proofs.Laws.Ends.{state-parts}
 use Rattle.rocchivanda.proofs.Laws.Calls.{as-valid}
 use Rattle.rocchivanda.specs.Calls.{Lent, wellFormed, machineIn, ends, calling, stepCall, idle, runCall, filed, recordCall}
 
@@ -46,10 +48,6 @@ unfolding malformed
 formed-is true b e = e
 formed-is false b e = refl
 
-room-le : (h : List ℕ) → roomOf h ≤ hintRoom
-unfolding roomOf
-room-le h = omega arith
-
 less-room : (a b n : ℕ) → a ≤ b → ltb b n ≡ true → ltb a n ≡ true
 less-room a b n h e = let l = ltb-true b n e in lt-ltb a n (omega arith)
 
@@ -62,13 +60,9 @@ formless-less a b c h e = go (ltb largestRules (c .rules)) (ltb b (c .hint)) ref
     go false true g k = less-room a b (c .hint) h g
     go false false g k = no-true (sym k)
 
-step-bad : (x d : List ℕ) (m : Machine) → bad m ≡ true → stepDef x d m ≡ refused m BadMachine
-unfolding stepDef
-step-bad x d m e = rw e
-
 run-bad : (x d : List ℕ) (n : ℕ) (m : Machine) → bad m ≡ true → runDef x d (suc n) m ≡ ran (Refused BadMachine) m 0
 unfolding runDef
-run-bad x d n m e = rw (step-bad x d m e)
+run-bad x d n m e = rw (bad-step x d m e)
 
 -- no record of a step that does not count
 unrecorded : (t w : Bool) (l : Left) (r b : List ℕ) → cond t (recorded l (cond (not w && false) r b)) (recorded l b) ≡ recorded l b
@@ -78,7 +72,7 @@ unrecorded false w l r b = refl
 
 record-bad : (x d : List ℕ) (m : Machine) (b : List ℕ) → bad m ≡ true → recordedDef x d m b ≡ recorded (refused m BadMachine) b
 unfolding recordedDef recording
-record-bad x d m b e = rw (step-bad x d m e) (unrecorded (eqb (length b) 752) (wide (m .cpu) (m .regs) (wordIn m)) (refused m BadMachine) (recordFrom m m) b)
+record-bad x d m b e = rw (bad-step x d m e) (unrecorded (eqb (length b) 752) (wide (m .cpu) (m .regs) (wordIn m)) (refused m BadMachine) (recordFrom m m) b)
 
 -- the step refuses such a state, so the calls leave what they would leave if these bytes were decoded too
 
@@ -89,7 +83,7 @@ module _ (l : Lent) (well : wellFormed (l .state) ≡ true) (none : decodeDef (l
 
   bad-in : bad (machineIn l) ≡ true
   unfolding bad machineIn
-  bad-in = rw (formless-less (roomOf (l .hint)) hintRoom (cpuOf (decodeAt (l .state) 0)) (room-le (l .hint)) formless-in)
+  bad-in = rw (formless-less (roomOf (l .hint)) hintRoom (cpuOf (decodeAt (l .state) 0)) (room-fits (l .hint) (roomOf (l .hint)) (omega arith) .0) formless-in)
 
   module _ (room : 4 ≤ length (l .answer)) where
     stays-as : (w : Answer) (r : Ran) → r ≡ ran w (machineIn l) 0 → calling l w r ≡ ends (l .answer) (l .state) r
@@ -99,7 +93,7 @@ module _ (l : Lent) (well : wellFormed (l .state) ≡ true) (none : decodeDef (l
     module _ (x d : List ℕ) where
       pub beyond-step : stepCall x d l ≡ ends (l .answer) (l .state) (ended (stepDef x d (machineIn l)))
       unfolding stepCall
-      beyond-step = stays-as _ _ (ap ended (step-bad x d (machineIn l) bad-in))
+      beyond-step = stays-as _ _ (ap ended (bad-step x d (machineIn l) bad-in))
 
       pub beyond-run : (n : ℕ) → runCall x d n l ≡ ends (l .answer) (l .state) (runDef x d n (machineIn l))
       unfolding runCall idle runDef

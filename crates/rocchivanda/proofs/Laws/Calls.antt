@@ -1,5 +1,5 @@
 -- The calls on what was lent: too few entries, no state, or carried out.
-use mathlib.Core.Path.{_≡_, refl, sym, ap, _∙_}
+use mathlib.Core.Path.{_≡_, sym, ap, _∙_}
 use mathlib.Core.Bool.{Bool, true, false, not}
 use mathlib.Core.List.{List}
 use Prim.Native.Nat.{ℕ, _≤_, _<_}
@@ -14,6 +14,7 @@ use Rattle.interpreter.specs.Layout.{valid, decodeDef}
 use Rattle.interpreter.specs.Step.{Left, machineOf, stepDef}
 use Rattle.interpreter.specs.Recording.{recorded, recordedDef}
 use Rattle.interpreter.specs.Runs.{Ran, ended, runDef}
+use Rattle.interpreter.proofs.Laws.Tests.{on, off}
 use Rattle.interpreter.proofs.Laws.Codec.{Out, decode-out}
 use Rattle.rocchivanda.specs.Calls.{Lent, Called, called, machineIn, leaves, stays, calling, stepCall, idle, runCall, filed, recordCall}
 
@@ -22,16 +23,8 @@ use Rattle.rocchivanda.specs.Calls.{Lent, Called, called, machineIn, lea
 pub as-valid : (t : Decoded) → t .formed ≡ true → t ≡ valid (t .state)
 as-valid t f = ap (λ (b : Bool). record { formed = b; state = t .state }) f
 
-formed-yes : (t : Bool) → not t ≡ false → t ≡ true
-formed-yes true e = refl
-formed-yes false e = sym e
-
-formed-no : (t : Bool) → not t ≡ true → t ≡ false
-formed-no true e = sym e
-formed-no false e = refl
-
 pub decoded : (b : List ℕ) {t : Decoded} → t ≡ decodeDef b → not (t .formed) ≡ false → Out b (t .state)
-decoded b {t = t} e f = decode-out b (t .state) (sym e ∙ as-valid t (formed-yes (t .formed) f))
+decoded b {t = t} e f = decode-out b (t .state) (sym e ∙ as-valid t (on (t .formed) f))
 
 -- ---- any call, where t is what the code decoded
 
@@ -42,11 +35,11 @@ few l w r h = rw (lt-leb _ _ h)
 module _ (l : Lent) (room : 4 ≤ length (l .answer)) {t : Decoded} (e : t ≡ decodeDef (l .state)) where
   none : (w : Answer) (r : Ran) → not (t .formed) ≡ true → stays l w ≡ calling l w r
   unfolding calling
-  none w r f = rw (le-leb _ _ room, ← e, formed-no (t .formed) f)
+  none w r f = rw (le-leb _ _ room, ← e, off (t .formed) f)
 
   done : (w : Answer) (r : Ran) → not (t .formed) ≡ false → leaves (l .answer) r ≡ calling l w r
   unfolding calling
-  done w r f = rw (le-leb _ _ room, ← e, formed-yes (t .formed) f)
+  done w r f = rw (le-leb _ _ room, ← e, on (t .formed) f)
 
   -- the machine that the code steps
   machine-is : {u : ℕ} → not (t .formed) ≡ false → u ≡ reg (l .answer) 0 → machineOf (t .state) u (l .pages) (l .hint) (l .output) ≡ machineIn l
@@ -80,7 +73,7 @@ module _ (x d : List ℕ) (l : Lent) where
 
     pub record-none : (b : List ℕ) → not (t .formed) ≡ true → c ≡ stays l (Refused BadMachine) → filed c b ≡ recordCall x d l b
     unfolding recordCall
-    record-none b f k = rw (le-leb _ _ room, ← e, formed-no (t .formed) f, k ∙ none l room e (Refused BadMachine) (ended (recordedDef x d (machineIn l) b .left)) f)
+    record-none b f k = rw (le-leb _ _ room, ← e, off (t .formed) f, k ∙ none l room e (Refused BadMachine) (ended (recordedDef x d (machineIn l) b .left)) f)
 
     module _ (f : not (t .formed) ≡ false) {u : ℕ} (g : u ≡ reg (l .answer) 0) where
       pub step-done : {q : Ran} {k : Left} → k ≡ stepDef x d (machineOf (t .state) u (l .pages) (l .hint) (l .output)) → q ≡ ended k → c ≡ leaves (l .answer) q → c ≡ stepCall x d l
@@ -96,4 +89,4 @@ module _ (x d : List ℕ) (l : Lent) where
       unfolding recordCall
       record-done b {q = q} {k = k} {y = y} i j h =
           let m : recorded k y ≡ recordedDef x d (machineIn l) b = i ∙ ap (λ m. recordedDef x d m b) (machine-is l room e f g) in
-          rw (le-leb _ _ room, ← e, formed-yes (t .formed) f, ← m, h ∙ ap (leaves (l .answer)) j ∙ done l room e (Refused BadMachine) (ended k) f)
+          rw (le-leb _ _ room, ← e, on (t .formed) f, ← m, h ∙ ap (leaves (l .answer)) j ∙ done l room e (Refused BadMachine) (ended k) f)

@@ -16,11 +16,11 @@ use Rattle.interpreter.specs.declared.step.Answer.{Answer}
 use Rattle.interpreter.specs.declared.step.Answer.the-variants.{Stepped, Refused}
 use Rattle.interpreter.specs.declared.step.Values.{Values}
 use Rattle.interpreter.specs.declared.run.Stopped.{Stopped}
-use Rattle.interpreter.specs.Machine.{reg, cpuOf, stateOf}
+use Rattle.interpreter.specs.Machine.{reg}
 use Rattle.interpreter.specs.Layout.{encode}
 use Rattle.interpreter.specs.Step.{Left, valuesOf}
 use Rattle.interpreter.specs.Runs.{ran, ended, stopped}
-use Rattle.interpreter.proofs.Laws.Layout.{length-encode, spare-four, spare-last, spare-none}
+use Rattle.interpreter.proofs.Laws.Layout.{length-encode, state-parts, spare-four, spare-last, spare-none}
 use Rattle.checker.specs.declared.verdict.Verdict.{Verdict}
 use Rattle.checker.specs.Check.{checkDef}
 use Rattle.rocchivanda.specs.Calls.{lent, called, wellFormed, machineIn, told, ends, leaves, stays, idle, verdictNumber, checkCall}
@@ -39,10 +39,6 @@ counted-is l e = rw e
 
 pub uncounted-is : (l : Left) → l .counts ≡ false → ran (l .answer) (l .machine) 0 ≡ ended l
 uncounted-is l e = rw e
-
-pub state-parts : (s : State) → stateOf (cpuOf s) (s .regs) (s .key) ≡ s
-unfolding stateOf cpuOf
-state-parts s = refl
 
 module _ (p h o a : List ℕ) {r : ℕ} {s b : List ℕ} where
   pub leaves-is : (e : Stopped) → b ≡ encode (e .state) → (r ≡ valuesOf (e .answer) .kind) × (s ≡ told a (e .used) (valuesOf (e .answer)) (e .count))
