@@ -83,7 +83,7 @@ decodeDef b = cond (eqb (length b) 360 && formedAt b 0) (valid (decodeAt b 0)) m
 
 -- ---- the states that 360 bytes can say
 
--- what every value of the type `State` is: 32 registers and eight numbers of 64 bits, a key of 32 bytes, a code of 8 bits
+-- what every value of the type `State` is: 32 registers and numbers of 64 bits, a key of 32 bytes, a code of 8 bits
 pub record Typed (s : State) : Type 0 where
   pub regs : length (s .regs) ≡ 32
   pub values : (i : ℕ) → reg (s .regs) i < 2 ^ 64

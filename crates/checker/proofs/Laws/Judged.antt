@@ -26,6 +26,7 @@ use Rattle.interpreter.specs.Layout.{formedAt, decodeAt, valid, malformed as no
 use Rattle.interpreter.specs.Ideal.{remember}
 use Rattle.interpreter.specs.Shown.{Shown, shown, madeBy, unlessRefused, madeWith, stepShown}
 use Rattle.interpreter.proofs.Laws.Tests.{no-true, on, off}
+use Rattle.interpreter.proofs.Laws.Layout.{valid-formed}
 use Rattle.interpreter.proofs.Laws.Shown.{unrefused}
 use Rattle.interpreter.proofs.Laws.Narrow.{Narrow, Found, found, shown-found}
 use Rattle.checker.specs.declared.verdict.Fault.the-variants.{Length, Form, AlreadyExited, StepRefused, WideStep, Touch as TouchFault, Result}
@@ -243,18 +244,13 @@ arm-exited r y e = rw (running r y e)
 
 -- ---- the whole
 
-cond-formed : (b : Bool) (s : State) → cond b (valid s) noState .formed ≡ b
-unfolding noState
-cond-formed true s = refl
-cond-formed false s = refl
-
 module _ (r : List ℕ) (long : length r ≡ 752) (k : ℕ) (inside : k + 360 ≤ 752) {o : Decoded} (y : o ≡ decodedAt r k) where
   decoded-is : o ≡ cond (formedAt r k) (valid (decodeAt r k)) noState
   unfolding decodedAt
   decoded-is = y ∙ rw (le-leb (k + 360) (length r) (omega arith))
 
   formed-as : formedAt r k ≡ o .formed
-  formed-as = sym (ap (λ (d : Decoded). d .formed) decoded-is ∙ cond-formed (formedAt r k) (decodeAt r k))
+  formed-as = sym (ap (λ (d : Decoded). d .formed) decoded-is ∙ valid-formed (formedAt r k) (decodeAt r k))
 
   state-as : not (o .formed) ≡ false → o .state ≡ decodeAt r k
   state-as h =

@@ -13,7 +13,7 @@ use Rattle.pages.specs.Memory.{Memory, write}
 use Rattle.pages.proofs.Laws.Runs.{length-row, cell-row, row-bytes}
 use Rattle.pages.proofs.Laws.Numbers.{big-ext}
 use Rattle.pages.proofs.Laws.Places.{bytes-big}
-use Rattle.pages.proofs.Laws.Meaning.{write-among, write-outside}
+use Rattle.pages.proofs.Laws.Meaning.{write-among, write-lt, write-outside}
 use Rattle.interpreter.specs.declared.effect.Effect.{Effect}
 use Rattle.interpreter.specs.declared.effect.Effect.the-variants.{Refused as RefusedBy, Call as CallBy, Done}
 use Rattle.interpreter.specs.declared.effect.Refusal.{Refusal}
@@ -29,7 +29,6 @@ use Rattle.interpreter.specs.Runs.{isRefused}
 use Rattle.interpreter.specs.Shown.{shownAt, Outside, effectShown}
 use Rattle.interpreter.proofs.Laws.Tests.{no-true, both, on}
 use Rattle.interpreter.proofs.Laws.Bytes.{big-lt}
-use Rattle.interpreter.proofs.Laws.Bounds.{write-lt}
 use Rattle.interpreter.proofs.Laws.Codec.{length-numbers}
 use Rattle.interpreter.proofs.Laws.Recorder.{touched-even}
 use Rattle.interpreter.proofs.Laws.Shown.{write-back, unrefused, pc-aligned}

@@ -1,17 +1,13 @@
 -- What an instruction and a step leave is within 64 bits, and an instruction by itself is refused only with 2 to 7.
 use mathlib.Core.Path.{_≡_}
 use mathlib.Core.Bool.{Bool, true, false, _&&_, not, cond}
-use mathlib.Core.List.{List}
 use Prim.Native.Nat.{ℕ, zero, suc, _+_, _-_, _*_, _/_, _%_, _^_, _≤_, _<_, min, max}
 use native.Mathlib.Nat.{mod-lt, mod-le, div-le-self, lt-of-le-of-lt, lt-of-lt-of-le, pow-le-pow-right}
 use native.Mathlib.Omega.{arith}
 use lib.Count.{leadingZeros, leading-le}
-use lib.ListN.{length}
-use lib.Dec.{eqb, leb, ltb, lit<, lit≤}
+use lib.Dec.{eqb, ltb, lit<, lit≤}
 use lib.Pow.{pow-pos, pow-mono, shr-le, shr-lt}
-use Rattle.pages.specs.Bytes.{big, bytesOf}
-use Rattle.pages.specs.Memory.{Memory, write}
-use Rattle.pages.proofs.Laws.Runs.{Bytes}
+use Rattle.pages.specs.Bytes.{big}
 use Rattle.pages.proofs.Laws.Numbers.{bytes-bytes}
 use Rattle.interpreter.specs.Words.{word, plus, sext, signExtend, less, bitwise, and, or, xor, magnitude, signed, quotient, remainder, product}
 use Rattle.interpreter.specs.Isa.{shamtOf, immOf, rdOf, rtOf, Alu, SLL, SRL, SRA, SLLV, SRLV, SRAV, DSLL, DSRL, DSRA, DSLL32, DSRL32, DSRA32, DSLLV, DSRLV, DSRAV, ADD, ADDU, SUB, SUBU, DADD, DADDU, DSUB, DSUBU, AND, OR, XOR, NOR, SLT, SLTU, MFHI, MFLO, MUL, CLZ, CLO, DCLZ, Imm, ADDI, ADDIU, SLTI, SLTIU, ANDI, ORI, XORI, LUI, DADDI, DADDIU, HiLo, MTHI, MTLO, MULT, MULTU, DMULT, DMULTU, DIV, DIVU, DDIV, DDIVU, Load, LB, LBU, LH, LHU, LW, LWU, LL, LD, LLD, LWL, LWR, LDL, LDR, Store, SB, SH, SW, SD, SWL, SWR, SDL, SDR, Conditional, SC, SCD, Branch, BEQ, BNE, BLEZ, BGTZ, BLTZ, BGEZ, BGEZAL, Jump, J, JAL, JR, JALR, Other, MOVZ, MOVN, SYNC, SYSCALL, Instruction, alu, imm, hilo, load, store, conditional, branch, jump, other, reserved, reservedBranch}
@@ -20,7 +16,7 @@ use Rattle.interpreter.specs.Effects.{refusalNumber, changes, storing, g
 use Rattle.interpreter.specs.Alu.{shiftLeft, shiftRight, shiftSigned, shiftSignedBy, doubleLeft, doubleRight, doubleSigned, sum, difference, mul, nor, leadingZeros32, leadingOnes32, result, immediate}
 use Rattle.interpreter.specs.HiLo.{pair, doublewords, mult, multu, dmult, dmultu, div, divu, ddiv, ddivu, overflows, toHiLo, dividing, hiLo}
 use Rattle.interpreter.specs.Loads.{offsetOf, addressOf, aligned, byte, byteAt, halfAt, wordAt, lwl, lwr, ldl, ldr, loaded}
-use Rattle.interpreter.specs.Stores.{put, sb, sh, sw, sd, swl, swr, sdl, sdr, stored, answering, conditionally}
+use Rattle.interpreter.specs.Stores.{sb, sh, sw, sd, swl, swr, sdl, sdr, stored, answering, conditionally}
 use Rattle.interpreter.specs.Kernel.{taken, branchTo, branching, region, jumping, after, doesOther, does, kernelDef}
 use Rattle.interpreter.specs.declared.hi_lo.Pair.{Pair}
 use Rattle.interpreter.specs.declared.effect.Ins.{Ins}
@@ -35,6 +31,7 @@ use Rattle.interpreter.proofs.Laws.Powers.{product-small}
 use Rattle.interpreter.proofs.Laws.Shifts.{bytes-pos, shl-cut, join-lt, shr-lt as cut-lt}
 use Rattle.interpreter.proofs.Laws.Signed.{magnitude-le}
 use Rattle.interpreter.proofs.Laws.Bytes.{big-lt}
+use Rattle.interpreter.proofs.Laws.Puts.{put-lt}
 
 -- ---- numbers within their bits, by what makes them
 
@@ -252,14 +249,6 @@ ldr-lt rules m o t h k =
     pick-lt (eqb rules 0 && eqb o 7) (or-lt m t) (rw e at (join-lt (7 - o) (o + 1) (t / 256 ^ (o + 1)) (big (o + 1) (byte m) 0) b (bytes-lt (o + 1) m 0)))
 
 -- ---- bytes written
-
-pub write-lt : (m : Memory) (a : ℕ) (vs : List ℕ) → ((b : ℕ) → m b < 256) → Bytes vs → (b : ℕ) → write m a vs b < 256
-unfolding write
-write-lt m a vs h g b = pick-lt (leb a b) (pick-lt (ltb (b - a) (length vs)) (g (b - a)) (h b)) (h b)
-
-put-lt : (m k n v : ℕ) → put m k (bytesOf n v) < 2 ^ 64
-unfolding put
-put-lt m k n v = big-lt 8 _ 0 (write-lt (byte m) k (bytesOf n v) (bytes-bytes 8 m) (bytes-bytes n v))
 
 sd-lt : (rules m o t : ℕ) → o < 8 → t < 2 ^ 64 → sd rules m o t < 2 ^ 64
 unfolding sd

@@ -1,12 +1,12 @@
 -- A state's bytes and the state say the same: encode then decode, and decode then encode.
 use mathlib.Core.Path.{_≡_, refl, sym, ap, _∙_}
-use mathlib.Core.Bool.{Bool, true, false, _&&_, _||_, not, cond}
+use mathlib.Core.Bool.{Bool, true, false, _&&_, cond}
 use mathlib.Core.List.{List, [], _∷_, _++_}
 use Prim.Native.Nat.{ℕ, zero, suc, _+_, _-_, _*_, _%_, _^_, _≤_, _<_}
 use native.Mathlib.Nat.{zero-add, add-zero, mod-eq-of-lt}
 use native.Mathlib.Decide.{decLt}
 use native.Mathlib.Omega.{arith}
-use lib.Dec.{eqb, ltb}
+use lib.Dec.{eqb}
 use lib.ListN.{length, length-append, List·getD-eq-default}
 use borrow.Author.Tests.{le-ltb, le-leb, eq-eqb, eqb-true, leb-true, ltb-false}
 use Rattle.pages.specs.Bytes.{cell, row, zeros, big, bytesOf}
@@ -18,7 +18,7 @@ use Rattle.interpreter.specs.Layout.{eights, flag, numbersOf, lastOf, en
 use Rattle.interpreter.specs.declared.state.State.{State}
 use Rattle.interpreter.specs.declared.state.Cpu.{Cpu}
 use Rattle.interpreter.specs.declared.layout.Decoded.{Decoded}
-use Rattle.interpreter.proofs.Laws.Tests.{no-true, both}
+use Rattle.interpreter.proofs.Laws.Tests.{no-true, both, neither, off}
 use Rattle.interpreter.proofs.Laws.Layout.{length-eights, length-encode, numbers-is, formed-is}
 
 -- ---- where the bytes of four runs stand
@@ -158,11 +158,6 @@ module _ (s : State) (f : Fits s) where
 
 -- ---- decode, then encode
 
-neither : (a b : Bool) → not (a || b) ≡ true → (a ≡ false) × (b ≡ false)
-neither false false e = (refl, refl)
-neither true b e = no-true (sym e)
-neither false true e = no-true (sym e)
-
 -- what a formed state's bytes say
 pub record Formed (b : List ℕ) (k : ℕ) : Type 0 where
   pub exited : cell b (k + 352) ≤ 1
@@ -175,7 +170,7 @@ unfolding formedAt formless cpuOf decodeAt
 formed-out b k e =
     let p = both e in
     let q = both (p .0) in
-    let r = neither (ltb largestRules (cell b (k + 354))) (ltb hintRoom (eight b (k + 312))) (p .1) in
+    let r = neither (off _ (p .1)) in
     record { exited = leb-true _ _ (q .0); spare = eqb-true _ _ (q .1); rules = ltb-false _ _ (r .0); hint = ltb-false _ _ (r .1) }
 
 valid-out : (t : Bool) (x s : State) → cond t (valid x) malformed ≡ valid s → (t ≡ true) × (x ≡ s)

@@ -1,6 +1,6 @@
 -- What every step keeps: the form of its state, and that a store goes to a doubleword.
 use mathlib.Core.Path.{_≡_, refl, sym, ap, _∙_}
-use mathlib.Core.Bool.{Bool, true, false, _||_, cond}
+use mathlib.Core.Bool.{Bool, true, false, cond}
 use mathlib.Core.List.{List, []}
 use Prim.Native.Nat.{ℕ, _+_, _*_, _/_, _%_, _^_, _≤_, _<_}
 use native.Mathlib.Omega.{arith}
@@ -43,7 +43,7 @@ use Rattle.interpreter.specs.Inputs.{entryOf, inside, partOf}
 use Rattle.interpreter.specs.Hints.{textOf, heard}
 use Rattle.interpreter.specs.Plan.{View, Store, keeps, stores, Deed, Plan, refuse, does, storing, changing, a1, a2, place, callIn, replying, staying, exiting, keying, wrote, writing, hinted, hearing, together, hinting, read, readingIn, readingAt, reading, calling, touchOf, planned, executing, wordOf, plan}
 use Rattle.interpreter.specs.Step.{left, refused, landed, putting, lay, settled, viewOf, withCpu, working, advance, stepDef}
-use Rattle.interpreter.proofs.Laws.Tests.{no-true}
+use Rattle.interpreter.proofs.Laws.Tests.{no-true, neither}
 use Rattle.interpreter.proofs.Laws.Paging.{isUsed}
 use Rattle.interpreter.proofs.Laws.Dests.{touchedAt, touching-all}
 use Rattle.interpreter.proofs.Laws.Hints.{out-whole}
@@ -214,22 +214,12 @@ pub record Formed (m : Machine) : Type 0 where
   pub hint : m .cpu .hint ≤ roomOf (m .hint)
   pub used : m .used ≤ whole (m .pages)
 
-or-left : (a b : Bool) → (a || b) ≡ false → a ≡ false
-or-left true b e = e
-or-left false b e = refl
-
-or-right : (a b : Bool) → (a || b) ≡ false → b ≡ false
-or-right true b e = no-true e
-or-right false b e = e
-
 pub formed : (m : Machine) → bad m ≡ false → Formed m
 unfolding bad formless
 formed m e =
-    let a = ltb 1 (m .cpu .rules) in
-    let b = ltb (roomOf (m .hint)) (m .cpu .hint) in
-    let c = ltb (whole (m .pages)) (m .used) in
-    let f : (a || b) ≡ false = or-left (a || b) c e in
-    record { rules = ltb-false _ _ (or-left a b f); hint = ltb-false _ _ (or-right a b f); used = ltb-false _ _ (or-right (a || b) c e) }
+    let f = neither e in
+    let g = neither (f .0) in
+    record { rules = ltb-false _ _ (g .0); hint = ltb-false _ _ (g .1); used = ltb-false _ _ (f .1) }
 
 pub formed-good : (m : Machine) → Formed m → bad m ≡ false
 unfolding bad formless

@@ -1,6 +1,6 @@
 -- A state's bytes: what the code writes and reads, and that bytes and states say the same.
 use mathlib.Core.Path.{_≡_, refl, sym, ap, _∙_}
-use mathlib.Core.Bool.{Bool, true, false, _&&_, _||_, not}
+use mathlib.Core.Bool.{Bool, true, false, _&&_, _||_, not, cond}
 use mathlib.Core.List.{List, _++_}
 use Prim.Native.Nat.{ℕ, zero, suc, _+_, _*_, _≤_, _<_}
 use native.Mathlib.Nat.{zero-add}
@@ -205,6 +205,12 @@ module _ (b : List ℕ) (k : ℕ) where
 
       pub formed-hint : {h : ℕ} → cell b (k + 354) ≤ 1 → h ≡ numberAt 8 b (k + 312) → leb h 65536 ≡ formedAt b k
       formed-hint {h = h} r g = at-most h 65536 ∙ rw (g ∙ number-fits 8 b (k + 312) (omega arith)) (formed-is b k (le-leb _ _ x) none (le-ltb _ _ r) refl)
+
+-- what is decoded is formed where it is a state
+pub valid-formed : (b : Bool) (s : State) → cond b (valid s) malformed .formed ≡ b
+unfolding malformed
+valid-formed true s = refl
+valid-formed false s = refl
 
 module _ (b : List ℕ) where
   pub decode-other : (length b ≡ 360 → ⊥) → malformed ≡ decodeDef b

@@ -5,14 +5,18 @@ use native.Mathlib.Nat.{zero-add, mod-lt, mod-eq-of-lt, mul-assoc, add-mul, add-
 use native.Mathlib.Omega.{arith}
 use lib.Arith.{mod-mul}
 use lib.Pow.{pow-add}
-use Rattle.pages.specs.Bytes.{cell, big, bytesOf}
+use Rattle.pages.specs.Bytes.{big, bytesOf}
 use Rattle.pages.specs.Memory.{write}
-use Rattle.pages.proofs.Laws.Numbers.{big-ext, big-bytes, length-bytes}
-use Rattle.pages.proofs.Laws.Meaning.{write-below, write-above, write-among}
+use Rattle.pages.proofs.Laws.Numbers.{big-ext, length-bytes, big-bytes, bytes-bytes}
+use Rattle.pages.proofs.Laws.Meaning.{write-below, write-above, write-lt, write-number}
 use Rattle.interpreter.specs.Loads.{byte}
 use Rattle.interpreter.specs.Stores.{put}
 use Rattle.interpreter.proofs.Laws.Shifts.{bytes-pos, shift, join-lt, shr-lt}
-use Rattle.interpreter.proofs.Laws.Bytes.{big-split, big-part, big-end}
+use Rattle.interpreter.proofs.Laws.Bytes.{big-split, big-lt, big-part, big-end}
+
+pub put-lt : (m k n v : ℕ) → put m k (bytesOf n v) < 2 ^ 64
+unfolding put
+put-lt m k n v = big-lt 8 _ 0 (write-lt (byte m) k (bytesOf n v) (bytes-bytes 8 m) (bytes-bytes n v))
 
 -- ---- k bytes that stay, n bytes of v, l bytes that stay
 
@@ -23,10 +27,7 @@ module _ (k n l : ℕ) (e : k + n + l ≡ 8) (m v : ℕ) where
       ∙ big-part 8 0 k (n + l) m (omega arith)
 
   put-middle : big n (write (byte m) k (bytesOf n v)) k ≡ v % 256 ^ n
-  put-middle =
-      let d = length-bytes n v in
-      big-ext n _ (cell (bytesOf n v)) k 0 (λ i h. write-among (byte m) k (bytesOf n v) (k + i) (omega arith) (omega arith) ∙ ap (cell (bytesOf n v)) (omega arith))
-      ∙ big-bytes n v
+  put-middle = write-number (byte m) k (bytesOf n v) n (length-bytes n v) ∙ big-bytes n v
 
   put-rest : big l (write (byte m) k (bytesOf n v)) (k + n) ≡ m % 256 ^ l
   put-rest =
@@ -45,13 +46,6 @@ module _ (k n l : ℕ) (e : k + n + l ≡ 8) (m v : ℕ) where
       let g : (t * 256 ^ n + v % 256 ^ n) * 256 ^ l ≡ t * 256 ^ (n + l) + v % 256 ^ n * 256 ^ l =
       rw (add-mul (t * 256 ^ n), mul-assoc t, pow-add 256 n l) in
       a ∙ rw (big-split k n w 0, zero-add k, zero-add (k + n), put-top, put-middle, put-rest, f) (omega (arith, g))
-
-  pub put-lt : m < 2 ^ 64 → put m k (bytesOf n v) < 2 ^ 64
-  put-lt h =
-      let d : k + (n + l) ≡ 8 = omega arith in
-      let t = shr-lt k (n + l) m (rw d h) in
-      let g = join-lt n l (v % 256 ^ n) (m % 256 ^ l) (mod-lt v (bytes-pos n)) (mod-lt m (bytes-pos l)) in
-      rw (put-is h) (rw d at (join-lt k (n + l) (m / 256 ^ (n + l)) (v % 256 ^ n * 256 ^ l + m % 256 ^ l) t g))
 
 -- ---- fewer bytes written: the others are written as they are
 
@@ -99,10 +93,10 @@ module _ (k n l s : ℕ) (e : k + n + l ≡ 8) (f : s ≡ 8 * l) (m : ℕ) (h : 
   old-le = rw old-exact (omega (arith, old-is))
 
   new-exact : (v : ℕ) → v % 256 ^ n * 2 ^ s % 2 ^ 64 ≡ v % 256 ^ n * 256 ^ l
-  new-exact v = rw (shift s l f) (mod-eq-of-lt (omega (arith, put-is k n l e m v h, put-lt k n l e m v h)))
+  new-exact v = rw (shift s l f) (mod-eq-of-lt (omega (arith, put-is k n l e m v h, put-lt m k n v)))
 
   pub replaced-is : (v : ℕ) → replaced n s m v ≡ put m k (bytesOf n v)
   replaced-is v = rw (old-exact, new-exact v, put-is k n l e m v h) (omega (arith, old-is))
 
   pub replaced-lt : (v : ℕ) → replaced n s m v < 2 ^ 64
-  replaced-lt v = rw (replaced-is v) (put-lt k n l e m v h)
+  replaced-lt v = rw (replaced-is v) (put-lt m k n v)

@@ -58,7 +58,7 @@ module _ (m o t : ℕ) (g : o < 8) (h : m < 2 ^ 64) (w : ℕ) (e : w ≡ wordAt 
       let u : ℕ = 24 - 8 * (o % 4) in
       let x : word t * 2 ^ u % 2 ^ 64 ≡ word t * 2 ^ u = shl-exact 32 u 64 (omega arith) (omega arith) in
       rw (eq-eqb _ _ r, le-ltb _ _ l, swr-word, x)
-      (or-is (swrWord m o t) (pushedOut o t) (put-lt (o / 4 * 4) (o % 4 + 1) (7 - o / 4 * 4 - o % 4) (omega arith) m t h) (omega arith))
+      (or-is (swrWord m o t) (pushedOut o t) (put-lt m (o / 4 * 4) (o % 4 + 1) t) (omega arith))
 
   pub swr-upper : (rules : ℕ) → o < 4 → sw m o (raisedWord (24 - 8 * (o % 4)) (word t) w) ≡ swr rules m o t
   unfolding swr

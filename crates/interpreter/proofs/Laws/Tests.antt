@@ -1,6 +1,6 @@
 -- Tests, and sums that do not wrap.
 use mathlib.Core.Path.{_≡_, refl, sym, ap, _∙_}
-use mathlib.Core.Bool.{Bool, true, false, _&&_, not, cond}
+use mathlib.Core.Bool.{Bool, true, false, _&&_, _||_, not, cond}
 use Prim.Native.Nat.{ℕ, _+_, _-_, _≤_, _<_}
 use native.Mathlib.Nat.{add-comm}
 use native.Mathlib.Decide.{decLt}
@@ -15,6 +15,10 @@ no-true e = let z : _≡_ {A = ℕ} 0 1 = ap (λ t. cond t 0 1) e in absurd (ome
 pub both : {a b : Bool} → (a && b) ≡ true → (a ≡ true) × (b ≡ true)
 both {a = true} {b = b} e = (refl, e)
 both {a = false} {b = b} e = no-true (sym e)
+
+pub neither : {a b : Bool} → (a || b) ≡ false → (a ≡ false) × (b ≡ false)
+neither {a = true} {b = b} e = no-true e
+neither {a = false} {b = b} e = (refl, e)
 
 pub on : (b : Bool) → not b ≡ false → b ≡ true
 on true e = refl

@@ -7,7 +7,7 @@ use native.Mathlib.Nat.{zero-add, mod-eq-of-lt}
 use native.Mathlib.Numerals.{add-one}
 use native.Mathlib.Decide.{ℕ-discrete}
 use native.Mathlib.Omega.{arith}
-use lib.Dec.{eqb}
+use lib.Dec.{eqb, leb, ltb}
 use lib.ListN.{length}
 use lib.Seq.{sets, length-sets}
 use borrow.Author.Tests.{lt-ltb, le-ltb, le-leb, lt-leb, eq-eqb}
@@ -60,6 +60,16 @@ module _ (m : Memory) (a : ℕ) (vs : List ℕ) (b : ℕ) where
   write-among k h =
       let l : b - a < length vs = omega arith in
       rw (le-leb _ _ k, lt-ltb _ _ l)
+
+-- bytes written into bytes
+pub write-lt : (m : Memory) (a : ℕ) (vs : List ℕ) → ((b : ℕ) → m b < 256) → Bytes vs → (b : ℕ) → write m a vs b < 256
+unfolding write
+write-lt m a vs h g b = go (leb a b) (ltb (b - a) (length vs))
+  where
+    go : (x y : Bool) → cond x (cond y (cell vs (b - a)) (m b)) (m b) < 256
+    go true true = g (b - a)
+    go true false = h b
+    go false y = h b
 
 -- what is written is n bytes long
 module _ (m : Memory) (a : ℕ) (vs : List ℕ) (n : ℕ) (long : length vs ≡ n) where

@@ -1,5 +1,5 @@
 -- Refusal 1 changes no byte of the state, whichever test gives it.
-use mathlib.Core.Path.{_≡_, refl, sym, ap}
+use mathlib.Core.Path.{_≡_, refl, sym, ap, _∙_}
 use mathlib.Core.Bool.{Bool, true, false, _&&_, _||_, not, cond}
 use mathlib.Core.List.{List}
 use Prim.Native.Nat.{ℕ, zero, suc, _≤_}
@@ -13,7 +13,7 @@ use Rattle.interpreter.specs.declared.state.Cpu.{Cpu}
 use Rattle.interpreter.specs.declared.step.Answer.{Answer}
 use Rattle.interpreter.specs.declared.step.Answer.the-variants.{Stepped, Refused}
 use Rattle.interpreter.specs.Machine.{Machine, largestRules, hintRoom, formless, roomOf, bad, cpuOf}
-use Rattle.interpreter.specs.Layout.{encode, decodeAt, formedAt, valid, malformed, decodeDef}
+use Rattle.interpreter.specs.Layout.{encode, decodeAt, formedAt, decodeDef}
 use Rattle.interpreter.specs.Step.{Left, refused, stepDef}
 use Rattle.interpreter.specs.Recording.{wide, stateIn, wordIn, recordFrom, recorded, recording, recordedDef}
 use Rattle.interpreter.specs.Runs.{Ran, ran, ended, runDef}
@@ -21,7 +21,7 @@ use Rattle.interpreter.proofs.Laws.Tests.{no-true}
 use Rattle.pages.proofs.Laws.Runs.{Bytes}
 use Rattle.interpreter.proofs.Laws.Hints.{room-fits}
 use Rattle.interpreter.proofs.Laws.Kept.{bad-step}
-use Rattle.interpreter.proofs.Laws.Layout.{state-parts}
+use Rattle.interpreter.proofs.Laws.Layout.{state-parts, valid-formed}
 use Rattle.interpreter.proofs.Laws.Codec.{decode-out, encode-decode}
 use Rattle.rocchivanda.proofs.Laws.Calls.{as-valid}
 use Rattle.rocchivanda.specs.Calls.{Lent, wellFormed, machineIn, ends, calling, stepCall, idle, runCall, filed, recordCall}
@@ -42,11 +42,6 @@ formless-by true true true false w e = no-true e
 formless-by true true false f w e = no-true (sym w)
 formless-by true false s f w e = no-true (sym w)
 formless-by false x s f w e = no-true (sym w)
-
-formed-is : (t : Bool) (b : List ℕ) → cond t (valid (decodeAt b 0)) malformed .formed ≡ false → t ≡ false
-unfolding malformed
-formed-is true b e = e
-formed-is false b e = refl
 
 less-room : (a b n : ℕ) → a ≤ b → ltb b n ≡ true → ltb a n ≡ true
 less-room a b n h e = let l = ltb-true b n e in lt-ltb a n (omega arith)
@@ -79,7 +74,7 @@ record-bad x d m b e = rw (bad-step x d m e) (unrecorded (eqb (length b) 752) (w
 module _ (l : Lent) (well : wellFormed (l .state) ≡ true) (none : decodeDef (l .state) .formed ≡ false) where
   formless-in : formless hintRoom (cpuOf (decodeAt (l .state) 0)) ≡ true
   unfolding wellFormed decodeDef formedAt
-  formless-in = let s = l .state in formless-by (eqb (length s) 360) (leb (cell s 352) 1) (eqb (big 5 (cell s) 355) 0) _ well (formed-is _ s none)
+  formless-in = let s = l .state in formless-by (eqb (length s) 360) (leb (cell s 352) 1) (eqb (big 5 (cell s) 355) 0) _ well (sym (valid-formed _ (decodeAt s 0)) ∙ none)
 
   bad-in : bad (machineIn l) ≡ true
   unfolding bad machineIn
