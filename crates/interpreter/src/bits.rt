@@ -32,37 +32,23 @@ pub(crate) fn minus(x: u64, y: u64) -> u64
     std::num::wrapping_sub_u64(x, y)
 }
 
+// The sign bit is added and taken away: with no branch, LLVM makes one sign-extending move of it.
 pub(crate) fn sext_byte(x: u64) -> u64
     ensures { λ r. ⌜ r ≡ sext 8 x ⌝ }
 {
-    let b = x % 0x100;
-    if b < 0x80 {
-        b
-    } else {
-        b + 0xffff_ffff_ffff_ff00
-    }
+    minus(plus(x, 0x80) % 0x100, 0x80)
 }
 
 pub(crate) fn sext_half(x: u64) -> u64
     ensures { λ r. ⌜ r ≡ sext 16 x ⌝ }
 {
-    let h = x % 0x1_0000;
-    if h < 0x8000 {
-        h
-    } else {
-        h + 0xffff_ffff_ffff_0000
-    }
+    minus(plus(x, 0x8000) % 0x1_0000, 0x8000)
 }
 
 pub(crate) fn sext_word(x: u64) -> u64
     ensures { λ r. ⌜ r ≡ sext 32 x ⌝ }
 {
-    let w = x % 0x1_0000_0000;
-    if w < 0x8000_0000 {
-        w
-    } else {
-        w + 0xffff_ffff_0000_0000
-    }
+    minus(plus(x, 0x8000_0000) % 0x1_0000_0000, 0x8000_0000)
 }
 
 // The arithmetic shift of a doubleword.

@@ -1,12 +1,12 @@
 -- Sign extension and signed order.
 use mathlib.Core.Path.{_≡_, sym, ap, _∙_}
 use mathlib.Core.Bool.{true, false, cond}
-use Prim.Native.Nat.{ℕ, _+_, _-_, _*_, _/_, _%_, _^_, _≤_, _<_}
-use native.Mathlib.Nat.{mod-eq-of-lt}
+use Prim.Native.Nat.{ℕ, suc, _+_, _-_, _*_, _/_, _%_, _^_, _≤_, _<_}
+use native.Mathlib.Nat.{mod-eq-of-lt, mod-eq-sub-mod, mod-lt, mod-add-mod, pow-succ'}
 use native.Mathlib.Decide.{decLt}
 use native.Mathlib.Omega.{arith}
 use lib.Dec.{ltb, leb}
-use lib.Pow.{pow-mono, shr-lt}
+use lib.Pow.{pow-mono, pow-pos, shr-lt, mod-mod-pow}
 use borrow.Author.Tests.{lt-ltb, le-ltb, le-leb, lt-leb, eq-eqb, ne-eqb}
 use Rattle.interpreter.specs.Words.{sext, signExtend, less}
 use Rattle.interpreter.specs.Alu.{doubleSigned, shiftSigned}
@@ -21,6 +21,24 @@ sext-low n x h = sym (rw (lt-ltb _ _ h))
 pub sext-high : (n x : ℕ) → 2 ^ (n - 1) ≤ x % 2 ^ n → x % 2 ^ n + (2 ^ 64 - 2 ^ n) ≡ sext n x
 unfolding sext
 sext-high n x h = sym (rw (le-ltb _ _ h))
+
+-- by adding the sign bit and taking it away
+pub sext-sum : (n x : ℕ) → 0 < n → n ≤ 64 → ((x + 2 ^ (n - 1)) % 2 ^ 64 % 2 ^ n + (2 ^ 64 - 2 ^ (n - 1))) % 2 ^ 64 ≡ sext n x
+sext-sum n x l h =
+    let s : 64 - n + n ≡ 64 = omega arith in
+    let m : (x + 2 ^ (n - 1)) % 2 ^ 64 % 2 ^ n ≡ (x + 2 ^ (n - 1)) % 2 ^ n = rw s at (mod-mod-pow (x + 2 ^ (n - 1)) (64 - n) n) in
+    let t : suc (n - 1) ≡ n = omega arith in
+    let d : 2 ^ n ≡ 2 * 2 ^ (n - 1) = rw t at (pow-succ' 2 (n - 1)) in
+    rw (m, ← mod-add-mod x (2 ^ n) (2 ^ (n - 1))) (go d (pow-mono {i = n} {j = 64} h) (mod-lt x (pow-pos n)) (decLt (x % 2 ^ n) (2 ^ (n - 1))))
+  where
+    go : 2 ^ n ≡ 2 * 2 ^ (n - 1) → 2 ^ n ≤ 2 ^ 64 → x % 2 ^ n < 2 ^ n → Dec (x % 2 ^ n < 2 ^ (n - 1))
+        → ((x % 2 ^ n + 2 ^ (n - 1)) % 2 ^ n + (2 ^ 64 - 2 ^ (n - 1))) % 2 ^ 64 ≡ sext n x
+    go d p b (yes w) =
+        let k : (x % 2 ^ n + 2 ^ (n - 1)) % 2 ^ n ≡ x % 2 ^ n + 2 ^ (n - 1) = mod-eq-of-lt (omega arith) in
+        rw k (omega arith) ∙ sext-low n x w
+    go d p b (no w) =
+        let k : (x % 2 ^ n + 2 ^ (n - 1)) % 2 ^ n ≡ x % 2 ^ n + 2 ^ (n - 1) - 2 ^ n = mod-eq-sub-mod (omega arith) ∙ mod-eq-of-lt (omega arith) in
+        rw k (omega arith) ∙ sext-high n x (omega arith)
 
 -- ---- the Rust's sign_extend, by its tests
 

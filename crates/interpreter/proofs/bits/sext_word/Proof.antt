@@ -1,13 +1,11 @@
-use Rattle.interpreter.proofs.Laws.Words.{sext-low, sext-high}
+use native.Mathlib.Omega.{arith}
+use Rattle.interpreter.proofs.Laws.Words.{sext-sum}
 use borrow.Author.Needs.{needs}
 use Rattle.interpreter.proofs.bits.sext_word.Statement.{statement}
 use Rattle.interpreter.proofs.bits.sext_word.Tie as tie
 
 returns : tie.Need-returns
-returns c = sext-low 32 _ (c .if1 .taken)
-
-returns-2 : tie.Need-returns-2
-returns-2 c = sext-high 32 _ (c .if1 .left)
+returns c = rw (c .minus .ensures, c .before .plus .ensures) (sext-sum 32 _ (omega arith) (omega arith))
 
 pub sext-word-spec : {M : Type 1} → statement M
-sext-word-spec = tie.close (tie.spec (λ c. search needs) returns returns-2)
+sext-word-spec = tie.close (tie.spec (λ c κs. search needs) (λ c κs. search needs) returns)
