@@ -10,6 +10,7 @@ pub mod Stores
 pub mod Signed
 pub mod Products
 pub mod Dispatch
+pub mod Frequent
 pub mod Touches
 pub mod Calls
 pub mod Tests

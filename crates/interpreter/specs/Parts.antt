@@ -1,4 +1,5 @@
 -- What the code's private parts answer and leave. No public promise rests on these.
+use mathlib.Core.Path.{_≡_}
 use Prim.Native.Nat.{ℕ, _+_}
 use mathlib.Core.Bool.{Bool, true, false, cond}
 use mathlib.Core.List.{List, [], _++_}
@@ -7,6 +8,8 @@ use lib.ListN.{length}
 use lib.Seq.{sets}
 use Rattle.pages.specs.Bytes.{cell, row}
 use Rattle.pages.specs.Memory.{Memory, span}
+use Rattle.interpreter.specs.declared.effect.Effect.{Effect}
+use Rattle.interpreter.specs.declared.effect.Effect.the-variants.{Done}
 use Rattle.interpreter.specs.declared.effect.Refusal.{Refusal}
 use Rattle.interpreter.specs.declared.effect.Refusal.the-variants.{NoRoom}
 use Rattle.interpreter.specs.declared.effect.Touch.{Touch}
@@ -31,6 +34,12 @@ use Rattle.interpreter.specs.Hints.{textOf, heard}
 use Rattle.interpreter.specs.Step.{Left, left}
 use Rattle.interpreter.specs.Records.{recordOf}
 use Rattle.interpreter.specs.Runs.{Ran, ran}
+
+-- ---- the frequent instructions
+
+-- what a quick answer may be: the change that the definition makes, or anything that is no change, and then it is left to others
+unfoldable pub Agrees : Effect → Effect → Type 0
+Agrees r s = (e : Change) → r ≡ Done e → s ≡ Done e
 
 -- ---- the step on lent registers
 

@@ -15,7 +15,7 @@ use crate::isa::Special2Function;
 use crate::isa::SpecialFunction;
 
 // Rules 0 sign-extends the unreduced product.
-fn shift_left(rules: u8, x: u64, s: u64) -> u64
+pub(crate) fn shift_left(rules: u8, x: u64, s: u64) -> u64
     requires { ⌜ s < 32 ⌝ }
     ensures { λ r. ⌜ r ≡ shiftLeft rules x s ⌝ }
 {
@@ -26,14 +26,14 @@ fn shift_left(rules: u8, x: u64, s: u64) -> u64
     bits::sext_word(p)
 }
 
-fn shift_right(x: u64, s: u64) -> u64
+pub(crate) fn shift_right(x: u64, s: u64) -> u64
     requires { ⌜ s < 32 ⌝ }
     ensures { λ r. ⌜ r ≡ shiftRight x s ⌝ }
 {
     bits::sext_word((x % 0x1_0000_0000) >> s)
 }
 
-fn shift_signed(x: u64, s: u64) -> u64
+pub(crate) fn shift_signed(x: u64, s: u64) -> u64
     requires { ⌜ s < 32 ⌝ }
     ensures { λ r. ⌜ r ≡ shiftSigned x s ⌝ }
 {
@@ -53,28 +53,28 @@ fn shift_signed_by(rules: u8, x: u64, y: u64) -> u64
     shift_signed(x, y % 32)
 }
 
-fn double_left(x: u64, s: u64) -> u64
+pub(crate) fn double_left(x: u64, s: u64) -> u64
     requires { ⌜ s < 64 ⌝ }
     ensures { λ r. ⌜ r ≡ doubleLeft x s ⌝ }
 {
     x << s
 }
 
-fn double_right(x: u64, s: u64) -> u64
+pub(crate) fn double_right(x: u64, s: u64) -> u64
     requires { ⌜ s < 64 ⌝ }
     ensures { λ r. ⌜ r ≡ doubleRight x s ⌝ }
 {
     x >> s
 }
 
-fn sum(x: u64, y: u64) -> u64
+pub(crate) fn sum(x: u64, y: u64) -> u64
     ensures { λ r. ⌜ r ≡ sum x y ⌝ }
 {
     bits::sext_word(bits::plus(x, y))
 }
 
 // Rules 0 sign-extends the 64-bit difference.
-fn difference(rules: u8, x: u64, y: u64) -> u64
+pub(crate) fn difference(rules: u8, x: u64, y: u64) -> u64
     ensures { λ r. ⌜ r ≡ difference rules x y ⌝ }
 {
     let d = bits::minus(x, y);
@@ -90,31 +90,31 @@ fn mul(x: u64, y: u64) -> u64
     bits::sext_word(x % 0x1_0000_0000 * (y % 0x1_0000_0000))
 }
 
-fn and(x: u64, y: u64) -> u64
+pub(crate) fn and(x: u64, y: u64) -> u64
     ensures { λ r. ⌜ r ≡ and x y ⌝ }
 {
     x & y
 }
 
-fn or(x: u64, y: u64) -> u64
+pub(crate) fn or(x: u64, y: u64) -> u64
     ensures { λ r. ⌜ r ≡ or x y ⌝ }
 {
     x | y
 }
 
-fn xor(x: u64, y: u64) -> u64
+pub(crate) fn xor(x: u64, y: u64) -> u64
     ensures { λ r. ⌜ r ≡ xor x y ⌝ }
 {
     x ^ y
 }
 
-fn nor(x: u64, y: u64) -> u64
+pub(crate) fn nor(x: u64, y: u64) -> u64
     ensures { λ r. ⌜ r ≡ nor x y ⌝ }
 {
     u64::MAX - or(x, y)
 }
 
-fn flag(b: bool) -> u64
+pub(crate) fn flag(b: bool) -> u64
     ensures { λ r. ⌜ r ≡ bit b ⌝ }
 {
     if b { 1 } else { 0 }

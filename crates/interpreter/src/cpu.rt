@@ -65,7 +65,7 @@ fn special_hi_lo(i: Ins, f: u64) -> Effect
 }
 
 // rd gets rs where a condition holds.
-fn move_if(i: Ins, moves: bool) -> Effect
+pub(crate) fn move_if(i: Ins, moves: bool) -> Effect
     ensures { λ r. ⌜ r ≡ cond moves (toRd i (i .rs)) (toRegister i 0 0) ⌝ }
 {
     if moves {

@@ -22,6 +22,7 @@ mod branches;
 
 // The kernel (cpu.rs): an instruction as a pure function.
 pub mod cpu;
+mod frequent;
 
 // What the machine holds, and a state's bytes.
 pub mod layout;
