@@ -49,9 +49,8 @@ build_rust() {
     CARGO_TARGET_DIR=$target/rust cargo build --release --offline --quiet --manifest-path "$here/rust/Cargo.toml" "$@"
 }
 
-# Our machine as a static library, and the programs that call it. The library is proved and written here unless
-# ROCCHIVANDA_LIB names a folder that has it.
-build_ours() {
+# Our machine as a static library. It is proved and written here unless ROCCHIVANDA_LIB names a folder that has it.
+find_library() {
     if [ "$(uname -m)" != x86_64 ]; then
         say "the library of our machine links only into programs for x86-64"
         exit 1
@@ -67,6 +66,11 @@ build_ours() {
     fi
     ROCCHIVANDA_LIB=$(cd "$ROCCHIVANDA_LIB" && pwd)
     export ROCCHIVANDA_LIB
+}
+
+# The programs that call it.
+build_ours() {
+    find_library
     build_rust --features judge/ours
 }
 
