@@ -6,6 +6,7 @@ pub mod list;
 pub mod old_state;
 pub mod record;
 pub mod steps;
+pub mod text;
 
 use std::fmt;
 
