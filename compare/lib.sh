@@ -1,6 +1,6 @@
-# For the commands beside this file: finds places, installs what is missing, builds. They come with $here set.
-# A shell's names are shared by all of it: what is set here is here, target, committed, binaries, driver, programs, as_root,
-# HOWITZER_SRC, ROCCHIVANDA_LIB, and source, level in a loop.
+# For the commands beside this file and ../bench/run: finds places, installs what is missing, builds. They come with $here
+# set to this folder. A shell's names are shared by all of it: what is set here is here, target, committed, binaries, driver,
+# programs, speaker, as_root, HOWITZER_SRC, ROCCHIVANDA_LIB, source, level and executable.
 
 set -eu
 
@@ -9,9 +9,10 @@ committed=$here/../crates/replay/data
 binaries=$target/rust/release
 driver=$target/driver
 programs=$target/programs
+speaker=${speaker:-compare}
 
 say() {
-    echo "compare: $*" >&2
+    echo "$speaker: $*" >&2
 }
 
 # need COMMAND PACKAGE: installs Debian's package unless the command is there.
@@ -49,7 +50,7 @@ build_rust() {
     CARGO_TARGET_DIR=$target/rust cargo build --release --offline --quiet --manifest-path "$here/rust/Cargo.toml" "$@"
 }
 
-# Our machine as a static library. It is proved and written here unless ROCCHIVANDA_LIB names a folder that has it.
+# Our machine as a static library, proved and written here unless ROCCHIVANDA_LIB names a folder that has it.
 find_library() {
     if [ "$(uname -m)" != x86_64 ]; then
         say "the library of our machine links only into programs for x86-64"
@@ -68,7 +69,7 @@ find_library() {
     export ROCCHIVANDA_LIB
 }
 
-# The programs that call it.
+# The same, and the programs that call it.
 build_ours() {
     find_library
     build_rust --features judge/ours
@@ -91,7 +92,21 @@ make_lists() {
     "$binaries/rules1" "$driver" "$1/rules1.vec"
 }
 
-# The C programs, at each level: no instruction outside isa.rs, no floating point, no library, one fixed place.
+# compile LEVEL EXECUTABLE SOURCE..: no instruction outside isa.rs, no floating point, no library, one fixed place.
+compile() {
+    level=$1
+    executable=$2
+    shift 2
+    mips64-linux-gnuabi64-gcc "-$level" -Wall -Wextra -Wno-unused-function \
+        -mabi=64 -march=mips64 -EB -mno-abicalls -fno-pic -msoft-float -msym32 -G0 \
+        -mno-check-zero-division -mno-branch-likely -mno-imadd \
+        -ffreestanding -fno-builtin -fno-stack-protector -fno-asynchronous-unwind-tables \
+        -fno-tree-loop-distribute-patterns -nostdlib -static \
+        -Wl,-T,"$here/programs/program.ld" -Wl,-z,max-page-size=4096 -Wl,--build-id=none \
+        -o "$executable" "$@"
+}
+
+# The C programs, at each level.
 build_programs() {
     need qemu-mips64 qemu-user
     need mips64-linux-gnuabi64-as binutils-mips64-linux-gnuabi64
@@ -100,13 +115,7 @@ build_programs() {
     mkdir -p "$programs"
     for source in "$here"/programs/*.c; do
         for level in O1 O2 O3 Os; do
-            mips64-linux-gnuabi64-gcc "-$level" -Wall -Wextra -Wno-unused-function \
-                -mabi=64 -march=mips64 -EB -mno-abicalls -fno-pic -msoft-float -msym32 -G0 \
-                -mno-check-zero-division -mno-branch-likely -mno-imadd \
-                -ffreestanding -fno-builtin -fno-stack-protector -fno-asynchronous-unwind-tables \
-                -fno-tree-loop-distribute-patterns -nostdlib -static \
-                -Wl,-T,"$here/programs/program.ld" -Wl,-z,max-page-size=4096 -Wl,--build-id=none \
-                -o "$programs/$(basename "$source" .c)-$level" "$here/programs/start.s" "$source"
+            compile "$level" "$programs/$(basename "$source" .c)-$level" "$here/programs/start.s" "$source"
         done
     done
 }

@@ -1,6 +1,6 @@
 //! The judge for rules 0: one step of the unchanged Rust, from document 01's bytes to document 01's bytes.
 
-use howitzer::{mips::HowitzerVM, state::State};
+use howitzer::{memory::Memory, mips::HowitzerVM, state::State};
 use std::{
     cell::Cell,
     future::Future,
@@ -76,6 +76,9 @@ impl Rust {
         oracle.index.clone_from(&m.index);
         oracle.data.clone_from(&m.data);
         oracle.hints.get_mut().clear();
+        let memory = &mut self.vm.state.memory;
+        memory.used = m.used;
+        memory.pages.clone_from(&m.pages);
         decode(m, &mut self.vm.state);
     }
 
@@ -174,7 +177,7 @@ fn fresh() -> Vm {
 }
 
 /// The step waits for nothing: its oracle's futures are ready. So one poll is the whole of it.
-fn at_once<F: Future>(mut future: F) -> F::Output {
+pub fn at_once<F: Future>(mut future: F) -> F::Output {
     // The future lives on this frame and is not moved after it is pinned.
     let future = unsafe { Pin::new_unchecked(&mut future) };
     let waker = unsafe { Waker::from_raw(no_waker()) };
@@ -220,9 +223,8 @@ fn put_front(buffer: &mut [u8], bytes: &[u8]) {
     buffer[..bytes.len()].copy_from_slice(bytes);
 }
 
-fn decode(m: &Machine, s: &mut State<Records>) {
-    s.memory.used = m.used;
-    s.memory.pages.clone_from(&m.pages);
+/// Document 01's state for the Rust, all but its memory; and back.
+pub fn decode<M: Memory>(m: &Machine, s: &mut State<M>) {
     for (register, value) in s.registers.iter_mut().enumerate() {
         *value = m.reg(register as u32);
     }
@@ -234,7 +236,7 @@ fn decode(m: &Machine, s: &mut State<Records>) {
     s.last_hint.extend_from_slice(&m.hint[..m.get(HINT_LENGTH) as usize]);
 }
 
-fn encode(s: &State<Records>, m: &mut Machine) {
+pub fn encode<M: Memory>(s: &State<M>, m: &mut Machine) {
     for (register, value) in s.registers.iter().enumerate() {
         m.set_reg(register as u32, *value);
     }
