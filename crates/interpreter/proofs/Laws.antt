@@ -32,3 +32,5 @@ pub mod Bounds
 pub mod Sizes
 pub mod Shown
 pub mod Narrow
+pub mod Windows
+pub mod Turns

@@ -1,21 +1,23 @@
 -- What the code's private parts answer and leave. No public promise rests on these.
+use Prim.Native.Nat.{ℕ, _+_, _-_, _*_, _/_, _≤_}
 use mathlib.Core.Path.{_≡_}
-use Prim.Native.Nat.{ℕ, _+_}
 use mathlib.Core.Bool.{Bool, true, false, cond}
 use mathlib.Core.List.{List, [], _++_}
-use lib.Dec.{leb, ltb}
+use lib.Dec.{eqb, leb, ltb}
 use lib.ListN.{length}
 use lib.Seq.{sets}
 use Rattle.pages.specs.Bytes.{cell, row}
 use Rattle.pages.specs.Memory.{Memory, span}
-use Rattle.interpreter.specs.declared.effect.Effect.{Effect}
-use Rattle.interpreter.specs.declared.effect.Effect.the-variants.{Done}
+use Rattle.pages.specs.Pages.{lookup}
+use Rattle.pages.specs.Calls.{stored}
+use Rattle.pages.specs.declared.page.Lookup.the-variants.{Record}
+use Rattle.pages.specs.declared.memory.Stored.the-variants.{Used}
 use Rattle.interpreter.specs.declared.effect.Refusal.{Refusal}
 use Rattle.interpreter.specs.declared.effect.Refusal.the-variants.{NoRoom}
 use Rattle.interpreter.specs.declared.effect.Touch.{Touch}
 use Rattle.interpreter.specs.declared.state.Cpu.{Cpu}
 use Rattle.interpreter.specs.declared.step.Answer.{Answer}
-use Rattle.interpreter.specs.declared.step.Answer.the-variants.{Refused}
+use Rattle.interpreter.specs.declared.step.Answer.the-variants.{Refused, Stepped as SteppedBy}
 use Rattle.interpreter.specs.declared.step.Next.{Next}
 use Rattle.interpreter.specs.declared.linux.Call.{Call}
 use Rattle.interpreter.specs.declared.record.Seen.{Seen}
@@ -23,23 +25,24 @@ use Rattle.interpreter.specs.declared.run.Reached.{Reached}
 use Rattle.interpreter.specs.declared.hint.Heard.{Heard}
 use Rattle.interpreter.specs.declared.hint.Heard.the-variants.{Keep, HandOut, Refuse}
 use Rattle.interpreter.specs.declared.effect.Change.{Change}
+use Rattle.interpreter.specs.declared.effect.Effect.{Effect}
+use Rattle.interpreter.specs.declared.effect.Effect.the-variants.{Done}
+use Rattle.interpreter.specs.declared.window.Window.{Window}
+use Rattle.interpreter.specs.declared.quick.Core.{Core}
+use Rattle.interpreter.specs.declared.quick.Turn.{Turn}
+use Rattle.interpreter.specs.declared.quick.Went.{Went}
 use Rattle.interpreter.specs.declared.effect.Touch.the-variants.{Nothing, Eight}
 use Rattle.interpreter.specs.declared.shown.Made.the-variants.{Wide, Stepped}
-use Rattle.interpreter.specs.Machine.{Machine, machine, reg, setReg, changed, roomOf}
-use Rattle.interpreter.specs.Plan.{Store, keeps, stores, eightAt, storing, callIn, calling}
+use Rattle.interpreter.specs.Words.{plus}
+use Rattle.interpreter.specs.Machine.{Machine, machine, reg, setReg, changed, counted, roomOf, bad}
+use Rattle.interpreter.specs.Plan.{Store, keeps, stores, eightAt, storing, callIn, calling, touchOf, executing}
 use Rattle.interpreter.specs.Ideal.{ideal, idealView, remember}
 use Rattle.interpreter.specs.Recording.{callWide, callTouch, wide, touched, memoryOf, stateIn, Recorded, recorded}
 use Rattle.interpreter.specs.Shown.{shownAt, Shown, shown, madeBy}
 use Rattle.interpreter.specs.Hints.{textOf, heard}
-use Rattle.interpreter.specs.Step.{Left, left}
+use Rattle.interpreter.specs.Step.{Left, left, putting, working}
 use Rattle.interpreter.specs.Records.{recordOf}
-use Rattle.interpreter.specs.Runs.{Ran, ran}
-
--- ---- the frequent instructions
-
--- what a quick answer may be: the change that the definition makes, or anything that is no change, and then it is left to others
-unfoldable pub Agrees : Effect → Effect → Type 0
-Agrees r s = (e : Change) → r ≡ Done e → s ≡ Done e
+use Rattle.interpreter.specs.Runs.{Ran, ran, more, runDef}
 
 -- ---- the step on lent registers
 
@@ -114,3 +117,51 @@ storeOf (Eight a) b v = cond b (stores a v) keeps
 -- any other instruction, that changes e
 unfoldable pub changeShown : Cpu → List ℕ → List ℕ → Touch → ℕ → Change → Shown
 changeShown c r k t x e = shown (Stepped (changed c e) t (eightAt (remember (shownAt t x) (storing t e)) t)) (setReg r (e .dest) (e .value)) k
+
+-- ---- many steps in a row
+
+-- a quick answer: the change that the definition makes, or anything that is no change and is left to others
+unfoldable pub Agrees : Effect → Effect → Type 0
+Agrees r s = (e : Change) → r ≡ Done e → s ≡ Done e
+
+-- a page's number and where its bytes stand, or no page's number
+pub data Shows (p : List ℕ) (u : ℕ) (w : Window) : Type 0 where
+  nowhere : w .number ≡ 0xffffffffffffffff → Shows p u w
+  standing : (i : ℕ) → lookup p u (w .number) ≡ Record i → w .at ≡ i * 4104 + 8 → Shows p u w
+
+-- whether the touched eight bytes lie in the page
+abbrev pub covered : Window → Touch → Bool
+covered w Nothing = true
+covered w (Eight a) = eqb (a / 4096) (w .number)
+
+-- the numbers that instructions change, and the rest with them
+unfoldable pub coreOf : Cpu → Core
+coreOf c = record { pc = c .pc; next = c .next; hi = c .hi; lo = c .lo; step = c .step }
+
+unfoldable pub cpuWith : Cpu → Core → Cpu
+cpuWith c k = record { pc = k .pc; next = k .next; hi = k .hi; lo = k .lo; heap = c .heap; step = k .step; offset = c .offset; hint = c .hint; exited = c .exited; code = c .code; rules = c .rules }
+
+unfoldable pub coreAfter : Core → Change → Core
+coreAfter k e = record { pc = e .pc; next = e .next; hi = e .hi; lo = e .lo; step = plus (k .step) 1 }
+
+-- a change carried out on registers r and pages p
+pub record Completed (k : Core) (r p : List ℕ) (u : ℕ) (w : Window) (t : Touch) (e : Change) (q : Turn) (r' p' : List ℕ) : Type 0 where
+  pub made : q .made ≡ true
+  pub core : q .core ≡ coreAfter k e
+  pub window : q .data ≡ w
+  pub regs : r' ≡ setReg r (e .dest) (e .value)
+  pub pages : stored (Used u) p' ≡ putting p u (storing t e)
+  pub kept : (v : Window) → Shows p u v → Shows p' u v
+
+-- a step that was not made leaves everything, and one that was is the definition's
+pub data Turned (c : Cpu) (k : Core) (w u : ℕ) (r p : List ℕ) (q : Turn) (r' p' : List ℕ) : Type 0 where
+  stays : q .made ≡ false → r' ≡ r → p' ≡ p → Turned c k w u r p q r' p'
+  makes : q .made ≡ true → Shows p' u (q .data) → ((v : Window) → Shows p u v → Shows p' u v)
+      → ((y h o x d : List ℕ) → left SteppedBy (machine (cpuWith c (q .core)) r' y u p' h o) true ≡ working x d (machine (counted (cpuWith c k)) r y u p h o) (λ s. executing s w (touchOf (s .regs) w)))
+      → Turned c k w u r p q r' p'
+
+-- the run of a machine that is not refused with 1 is so many steps, and the rest
+pub record Gone (c : Cpu) (u : ℕ) (r p : List ℕ) (budget : ℕ) (e : Went) (r' p' : List ℕ) (y h o x d : List ℕ) : Type 0 where
+  pub within : e .count ≤ budget
+  pub fine : bad (machine (e .cpu) r' y u p' h o) ≡ false
+  pub rest : runDef x d budget (machine c r y u p h o) ≡ more (e .count) (runDef x d (budget - e .count) (machine (e .cpu) r' y u p' h o))

@@ -6,7 +6,7 @@ ghost use Prim.Native.Nat.{_<_, _%_};
 ghost use lib.Dec.{eqb};
 ghost use Rattle.interpreter.specs.Words.{sext};
 ghost use Rattle.interpreter.specs.Isa.{shamtOf, immOf};
-ghost use Rattle.interpreter.specs.OpcodeMap.{special, decode};
+ghost use Rattle.interpreter.specs.OpcodeMap.{special, decodeBy, decode};
 ghost use Rattle.interpreter.specs.Effects.{toRt, storing};
 ghost use Rattle.interpreter.specs.Loads.{addressOf, offsetOf, aligned};
 ghost use Rattle.interpreter.specs.Kernel.{after, does};
@@ -120,6 +120,23 @@ fn special(i: Ins, f: u64) -> Effect
     }
 }
 
+// Loads and stores of a part of a word or doubleword.
+fn parts(i: Ins, op: u64) -> Effect
+    ensures { λ r. ⌜ Agrees r (does (decodeBy op (i .word)) i) ⌝ }
+{
+    match op {
+        Opcode::LDL => i.to_rt(loads::ldl(i.mem, offset(i), i.rt)),
+        Opcode::LDR => i.to_rt(loads::ldr(i.rules, i.mem, offset(i), i.rt)),
+        Opcode::LWL => i.to_rt(loads::lwl(i.rules, i.mem, offset(i), i.rt)),
+        Opcode::LWR => i.to_rt(loads::lwr(i.rules, i.mem, offset(i), i.rt)),
+        Opcode::SDL => i.storing(0, 0, stores::sdl(i.mem, offset(i), i.rt)),
+        Opcode::SDR => i.storing(0, 0, stores::sdr(i.mem, offset(i), i.rt)),
+        Opcode::SWL => i.storing(0, 0, stores::swl(i.mem, offset(i), i.rt)),
+        Opcode::SWR => i.storing(0, 0, stores::swr(i.rules, i.mem, offset(i), i.rt)),
+        _ => Effect::Call,
+    }
+}
+
 // The change that an instruction makes, where it is one of these.
 pub(crate) fn frequent(i: Ins) -> Effect
     ensures { λ r. ⌜ Agrees r (does (decode (i .word)) i) ⌝ }
@@ -151,6 +168,6 @@ pub(crate) fn frequent(i: Ins) -> Effect
         Opcode::SH => keeping(i, 2, stores::sh(i.mem, offset(i), i.rt)),
         Opcode::SW => keeping(i, 4, stores::sw(i.mem, offset(i), i.rt)),
         Opcode::SD => keeping(i, 8, stores::sd(i.rules, i.mem, offset(i), i.rt)),
-        _ => Effect::Call,
+        _ => parts(i, Opcode::decode(i.word)),
     }
 }

@@ -36,7 +36,9 @@ mod syscall;
 pub mod utf8;
 
 // One step, its record, the step repeated, and the step that a record shows.
+mod quick;
 pub mod record;
 pub mod run;
 pub mod shown;
 pub mod step;
+mod window;

@@ -8,6 +8,7 @@ ghost use Rattle.interpreter.specs.Step.{machineOf};
 ghost use Rattle.interpreter.specs.Runs.{isStepped, more, ended, ran, stopped, runDef};
 ghost use Rattle.interpreter.specs.Parts.{after, reached};
 use crate::effect::Refusal;
+use crate::quick;
 use crate::state::Cpu;
 use crate::state::State;
 use crate::step;
@@ -87,6 +88,17 @@ pub(crate) fn repeat(
     let mut at = used;
     let mut count = 0;
     while count < budget {
+        let w = quick::go(cpu, regs, pages, at, budget - count);
+        cpu = w.cpu;
+        count += w.count;
+        if budget <= count {
+            return Reached {
+                answer: Answer::Stepped,
+                cpu,
+                used: at,
+                count,
+            };
+        }
         let n = step::advance(cpu, regs, key, pages, at, hint, output, index, data);
         let answer = n.answer;
         if !is_stepped(answer) {

@@ -7,3 +7,4 @@ pub mod Rooms
 pub mod Stores
 pub mod Meaning
 pub mod Places
+pub mod Found

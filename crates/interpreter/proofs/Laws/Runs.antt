@@ -43,7 +43,7 @@ use Rattle.interpreter.proofs.Laws.Tests.{no-true, on, off}
 more-none : (r : Ran) → more 0 r ≡ r
 more-none r = ap (ran (r .answer) (r .machine)) (omega arith)
 
-more-more : (a b : ℕ) (r : Ran) → more a (more b r) ≡ more (a + b) r
+pub more-more : (a b : ℕ) (r : Ran) → more a (more b r) ≡ more (a + b) r
 more-more a b r = ap (ran (r .answer) (r .machine)) (omega arith)
 
 module _ (x d : List ℕ) where

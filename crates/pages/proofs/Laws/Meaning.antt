@@ -101,7 +101,7 @@ module _ (p : List ℕ) (i o : ℕ) (vs : List ℕ) (fits : o + length vs ≤ 40
       go m h (among b c) = absurd (omega arith)
 
 module _ (p : List ℕ) (used i a : ℕ) (vs : List ℕ) (fits : a % 4096 + length vs ≤ 4096) (found : lookup p used (a / 4096) ≡ Record i) where
-  lookup-body : (x : ℕ) → lookup (sets p (i * 4104 + 8 + a % 4096) vs) used x ≡ lookup p used x
+  pub lookup-body : (x : ℕ) → lookup (sets p (i * 4104 + 8 + a % 4096) vs) used x ≡ lookup p used x
   lookup-body x =
       lookup-ext p (sets p (i * 4104 + 8 + a % 4096) vs) used x (length-sets p (i * 4104 + 8 + a % 4096) vs) (λ k h. number-body p i (a % 4096) vs fits k)
 

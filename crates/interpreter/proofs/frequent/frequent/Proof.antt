@@ -4,7 +4,7 @@ use Rattle.interpreter.specs.Alu.{immediate}
 use Rattle.interpreter.specs.Loads.{loaded}
 use Rattle.interpreter.specs.Stores.{stored}
 use Rattle.interpreter.specs.Kernel.{taken, branching, jumping, does}
-use Rattle.interpreter.proofs.Laws.Frequent.{agrees-same, agrees-as, agrees-call}
+use Rattle.interpreter.proofs.Laws.Frequent.{agrees-same, agrees-as}
 use borrow.Author.Needs.{needs}
 use Rattle.interpreter.proofs.frequent.frequent.Statement.{statement}
 use Rattle.interpreter.proofs.frequent.frequent.Tie as tie
@@ -114,7 +114,7 @@ unfolding find found decodeBy byOpcode memory jumps branches immediates loads st
 returns-26 c = agrees-same (simp (c .keeping3 .ensures, c .before .sd .ensures, c .before .before .offset10 .ensures, sym (c .before .before .before .before .decode .ensures) ∙ c .before .before .before .match .keys26))
 
 returns-27 : tie.Need-returns-27
-returns-27 c = agrees-call _
+returns-27 c = agrees-as _ (c .parts .ensures) (rw (c .before .decode3 .ensures))
 
 pub frequent-spec : {M : Type 1} → statement M
 frequent-spec =
@@ -158,6 +158,8 @@ frequent-spec =
     (λ c κs. search needs)
     (λ c κs. search needs)
     (λ c. search needs)
+    (λ c κs. search needs)
+    (λ c κs. search needs)
     (λ c κs. search needs)
     (λ c κs. search needs)
     (λ c κs. search needs)

@@ -1,0 +1,243 @@
+// Many steps in a row, as long as each is an instruction on pages that are there. Every other step ends them, and is left to
+// `step::advance`.
+ghost use mathlib.Core.Path.{_≡_};
+ghost use mathlib.Core.Bool.{true, false};
+ghost use mathlib.Core.List.{List};
+ghost use Prim.Native.Nat.{ℕ, _/_, _%_, _<_, _≤_};
+ghost use Rattle.pages.specs.Pages.{byteAt};
+ghost use Rattle.pages.specs.Calls.{stored};
+ghost use Rattle.pages.specs.declared.memory.Stored.the-variants.{Used};
+ghost use Rattle.interpreter.specs.Machine.{setReg, machine, bad};
+ghost use Rattle.interpreter.specs.Plan.{eightAt, storing, touchOf};
+ghost use Rattle.interpreter.specs.Step.{putting};
+ghost use Rattle.interpreter.specs.Parts.{Shows, covered, coreOf, cpuWith, Completed, Turned, Gone};
+ghost use Rattle.interpreter.specs.declared.window.Window.{Window};
+ghost use Rattle.interpreter.specs.declared.effect.Touch.the-variants.{Eight};
+use crate::bits;
+use crate::cpu;
+use crate::effect::Change;
+use crate::effect::Effect;
+use crate::effect::Touch;
+use crate::frequent;
+use crate::state::Cpu;
+use crate::step;
+use crate::window::Window;
+
+// The numbers that instructions change. The others stay, and a loop need not carry them.
+pub(crate) struct Core {
+    pub pc: u64,
+    pub next: u64,
+    pub hi: u64,
+    pub lo: u64,
+    pub step: u64,
+}
+
+// A step that was made, or was not and left everything as it was; and the page of the loads and stores.
+pub(crate) struct Turn {
+    pub made: bool,
+    pub core: Core,
+    pub data: Window,
+}
+
+// How far the steps went.
+pub(crate) struct Went {
+    pub cpu: Cpu,
+    pub count: u64,
+}
+
+impl Cpu {
+    fn core(self) -> Core
+        ensures { λ r. ⌜ r ≡ coreOf self ⌝ }
+    {
+        Core {
+            pc: self.pc,
+            next: self.next,
+            hi: self.hi,
+            lo: self.lo,
+            step: self.step,
+        }
+    }
+
+    fn with_core(self, k: Core) -> Cpu
+        ensures { λ r. ⌜ r ≡ cpuWith self k ⌝ }
+    {
+        let mut c = self;
+        c.pc = k.pc;
+        c.next = k.next;
+        c.hi = k.hi;
+        c.lo = k.lo;
+        c.step = k.step;
+        c
+    }
+}
+
+// The page of the touched eight bytes.
+fn window_of(w: Window, pages: &[u8], used: usize, t: Touch) -> Window
+    requires { ⌜ Shows (now pages) used w ⌝ }
+    ensures { λ r. ⌜ Shows (now (pages .entry)) used r ⌝ }
+{
+    match t {
+        Touch::Nothing => w,
+        Touch::Eight(a) => w.to(pages, used, a),
+    }
+}
+
+fn covers(w: Window, t: Touch) -> bool
+    ensures { λ r. ⌜ r ≡ covered w t ⌝ }
+{
+    match t {
+        Touch::Nothing => true,
+        Touch::Eight(a) => w.has(a),
+    }
+}
+
+fn touched(w: Window, pages: &[u8], used: usize, t: Touch) -> u64
+    requires { ⌜ Shows (now pages) used w × (covered w t ≡ true) × ((a : ℕ) → t ≡ Eight a → a % 8 ≡ 0) ⌝ }
+    ensures { λ r. ⌜ r ≡ eightAt (byteAt (now (pages .entry)) used) t ⌝ }
+{
+    match t {
+        Touch::Nothing => 0,
+        Touch::Eight(a) => w.doubleword(pages, used, a),
+    }
+}
+
+fn settle(w: Window, pages: &mut [u8], used: usize, t: Touch, e: Change)
+    requires { ⌜ Shows (now pages) used w × (covered w t ≡ true) × ((a : ℕ) → t ≡ Eight a → a % 8 ≡ 0) ⌝ }
+    ensures { λ _. ⌜ (stored (Used used) (now (pages .exit)) ≡ putting (now (pages .entry)) used (storing t e)) × ((v : Window) → Shows (now (pages .entry)) used v → Shows (now (pages .exit)) used v) ⌝ }
+{
+    match t {
+        Touch::Nothing => {}
+        Touch::Eight(a) => {
+            if e.store {
+                w.put_doubleword(pages, used, a, e.mem);
+            }
+        }
+    }
+}
+
+// The step once it is known what changes.
+fn complete(
+    k: Core,
+    regs: &mut [u64; 32],
+    pages: &mut [u8],
+    used: usize,
+    w: Window,
+    t: Touch,
+    e: Change,
+) -> Turn
+    requires { ⌜ Shows (now pages) used w × (covered w t ≡ true) × ((a : ℕ) → t ≡ Eight a → a % 8 ≡ 0) × (e .dest < 32) ⌝ }
+    ensures { λ r. ⌜ Completed k (now (regs .entry)) (now (pages .entry)) used w t e r (now (regs .exit)) (now (pages .exit)) ⌝ }
+{
+    settle(w, pages, used, t, e);
+    step::set_reg(regs, e.dest, e.value);
+    Turn {
+        made: true,
+        core: Core {
+            pc: e.pc,
+            next: e.next,
+            hi: e.hi,
+            lo: e.lo,
+            step: bits::plus(k.step, 1),
+        },
+        data: w,
+    }
+}
+
+// An instruction that is not among the frequent ones.
+fn rarely(
+    c: Cpu,
+    k: Core,
+    word: u64,
+    regs: &mut [u64; 32],
+    pages: &mut [u8],
+    used: usize,
+    w: Window,
+    t: Touch,
+    mem: u64,
+) -> Turn
+    requires { ⌜ Shows (now pages) used w × (covered w t ≡ true) × (t ≡ touchOf (now regs) word) × (mem ≡ eightAt (byteAt (now pages) used) t) ⌝ }
+    ensures { λ r. ⌜ Turned c k word used (now (regs .entry)) (now (pages .entry)) r (now (regs .exit)) (now (pages .exit)) ⌝ }
+{
+    let effect = cpu::kernel(step::ins_of(c.with_core(k), regs, word, mem));
+    let Effect::Done(e) = effect else {
+        return Turn {
+            made: false,
+            core: k,
+            data: w,
+        };
+    };
+    complete(k, regs, pages, used, w, t, e)
+}
+
+// One step of the instruction at an aligned pc.
+fn once(
+    c: Cpu,
+    k: Core,
+    word: u64,
+    regs: &mut [u64; 32],
+    pages: &mut [u8],
+    used: usize,
+    data: Window,
+) -> Turn
+    requires { ⌜ Shows (now pages) used «data» × (k .pc % 4 ≡ 0) ⌝ }
+    ensures { λ r. ⌜ Turned c k word used (now (regs .entry)) (now (pages .entry)) r (now (regs .exit)) (now (pages .exit)) ⌝ }
+{
+    let t = step::touch_of(regs, word);
+    let w = window_of(data, pages, used, t);
+    if !covers(w, t) {
+        return Turn {
+            made: false,
+            core: k,
+            data: w,
+        };
+    }
+    let mem = touched(w, pages, used, t);
+    let effect = frequent::frequent(step::ins_of(c.with_core(k), regs, word, mem));
+    let Effect::Done(e) = effect else {
+        return rarely(c, k, word, regs, pages, used, w, t, mem);
+    };
+    complete(k, regs, pages, used, w, t, e)
+}
+
+// Steps, until one is not made here or as many as the budget are.
+pub(crate) fn go(c: Cpu, regs: &mut [u64; 32], pages: &mut [u8], used: usize, budget: u64) -> Went
+    ensures { λ r. ⌜ ((y h o x d : List ℕ) → bad (machine c (now (regs .entry)) y used (now (pages .entry)) h o) ≡ false → Gone c used (now (regs .entry)) (now (pages .entry)) budget r (now (regs .exit)) (now (pages .exit)) y h o x d) ⌝ }
+{
+    if c.exited {
+        return Went { cpu: c, count: 0 };
+    }
+    let mut core = c.core();
+    let mut code = Window::none();
+    let mut data = Window::none();
+    let mut count = 0;
+    while count < budget {
+        if core.pc % 4 != 0 {
+            return Went {
+                cpu: c.with_core(core),
+                count,
+            };
+        }
+        code = code.to(pages, used, core.pc);
+        if !code.has(core.pc) {
+            return Went {
+                cpu: c.with_core(core),
+                count,
+            };
+        }
+        let word = code.word(pages, used, core.pc);
+        let q = once(c, core, word, regs, pages, used, data);
+        if !q.made {
+            return Went {
+                cpu: c.with_core(core),
+                count,
+            };
+        }
+        core = q.core;
+        data = q.data;
+        count += 1;
+    }
+    Went {
+        cpu: c.with_core(core),
+        count,
+    }
+}
