@@ -1,5 +1,5 @@
 -- What the code's private parts answer and leave. No public promise rests on these.
-use Prim.Native.Nat.{ℕ, _+_, _-_, _*_, _/_, _≤_}
+use Prim.Native.Nat.{ℕ, zero, suc, _+_, _-_, _*_, _/_, _≤_}
 use mathlib.Core.Path.{_≡_}
 use mathlib.Core.Bool.{Bool, true, false, cond}
 use mathlib.Core.List.{List, [], _++_}
@@ -134,20 +134,26 @@ abbrev pub covered : Window → Touch → Bool
 covered w Nothing = true
 covered w (Eight a) = eqb (a / 4096) (w .number)
 
--- the numbers that instructions change, and the rest with them
+-- the numbers that instructions change
 unfoldable pub coreOf : Cpu → Core
-coreOf c = record { pc = c .pc; next = c .next; hi = c .hi; lo = c .lo; step = c .step }
+coreOf c = record { pc = c .pc; next = c .next; hi = c .hi; lo = c .lo }
 
-unfoldable pub cpuWith : Cpu → Core → Cpu
-cpuWith c k = record { pc = k .pc; next = k .next; hi = k .hi; lo = k .lo; heap = c .heap; step = k .step; offset = c .offset; hint = c .hint; exited = c .exited; code = c .code; rules = c .rules }
+unfoldable pub coreAfter : Change → Core
+coreAfter e = record { pc = e .pc; next = e .next; hi = e .hi; lo = e .lo }
 
-unfoldable pub coreAfter : Core → Change → Core
-coreAfter k e = record { pc = e .pc; next = e .next; hi = e .hi; lo = e .lo; step = plus (k .step) 1 }
+-- the step counter so many steps later
+unfoldable pub later : ℕ → ℕ → ℕ
+later s zero = s
+later s (suc n) = plus (later s n) 1
+
+-- the numbers so many steps later
+unfoldable pub cpuWith : Cpu → Core → ℕ → Cpu
+cpuWith c k n = record { pc = k .pc; next = k .next; hi = k .hi; lo = k .lo; heap = c .heap; step = later (c .step) n; offset = c .offset; hint = c .hint; exited = c .exited; code = c .code; rules = c .rules }
 
 -- a change carried out on registers r and pages p
-pub record Completed (k : Core) (r p : List ℕ) (u : ℕ) (w : Window) (t : Touch) (e : Change) (q : Turn) (r' p' : List ℕ) : Type 0 where
+pub record Completed (r p : List ℕ) (u : ℕ) (w : Window) (t : Touch) (e : Change) (q : Turn) (r' p' : List ℕ) : Type 0 where
   pub made : q .made ≡ true
-  pub core : q .core ≡ coreAfter k e
+  pub core : q .core ≡ coreAfter e
   pub window : q .data ≡ w
   pub regs : r' ≡ setReg r (e .dest) (e .value)
   pub pages : stored (Used u) p' ≡ putting p u (storing t e)
@@ -157,7 +163,7 @@ pub record Completed (k : Core) (r p : List ℕ) (u : ℕ) (w : Window) (t : Tou
 pub data Turned (c : Cpu) (k : Core) (w u : ℕ) (r p : List ℕ) (q : Turn) (r' p' : List ℕ) : Type 0 where
   stays : q .made ≡ false → r' ≡ r → p' ≡ p → Turned c k w u r p q r' p'
   makes : q .made ≡ true → Shows p' u (q .data) → ((v : Window) → Shows p u v → Shows p' u v)
-      → ((y h o x d : List ℕ) → left SteppedBy (machine (cpuWith c (q .core)) r' y u p' h o) true ≡ working x d (machine (counted (cpuWith c k)) r y u p h o) (λ s. executing s w (touchOf (s .regs) w)))
+      → ((n : ℕ) (y h o x d : List ℕ) → left SteppedBy (machine (cpuWith c (q .core) (n + 1)) r' y u p' h o) true ≡ working x d (machine (counted (cpuWith c k n)) r y u p h o) (λ s. executing s w (touchOf (s .regs) w)))
       → Turned c k w u r p q r' p'
 
 -- the run of a machine that is not refused with 1 is so many steps, and the rest

@@ -29,7 +29,6 @@ pub(crate) struct Core {
     pub next: u64,
     pub hi: u64,
     pub lo: u64,
-    pub step: u64,
 }
 
 // A step that was made, or was not and left everything as it was; and the page of the loads and stores.
@@ -54,19 +53,17 @@ impl Cpu {
             next: self.next,
             hi: self.hi,
             lo: self.lo,
-            step: self.step,
         }
     }
 
     fn with_core(self, k: Core) -> Cpu
-        ensures { λ r. ⌜ r ≡ cpuWith self k ⌝ }
+        ensures { λ r. ⌜ r ≡ cpuWith self k 0 ⌝ }
     {
         let mut c = self;
         c.pc = k.pc;
         c.next = k.next;
         c.hi = k.hi;
         c.lo = k.lo;
-        c.step = k.step;
         c
     }
 }
@@ -117,7 +114,6 @@ fn settle(w: Window, pages: &mut [u8], used: usize, t: Touch, e: Change)
 
 // The step once it is known what changes.
 fn complete(
-    k: Core,
     regs: &mut [u64; 32],
     pages: &mut [u8],
     used: usize,
@@ -126,7 +122,7 @@ fn complete(
     e: Change,
 ) -> Turn
     requires { ⌜ Shows (now pages) used w × (covered w t ≡ true) × ((a : ℕ) → t ≡ Eight a → a % 8 ≡ 0) × (e .dest < 32) ⌝ }
-    ensures { λ r. ⌜ Completed k (now (regs .entry)) (now (pages .entry)) used w t e r (now (regs .exit)) (now (pages .exit)) ⌝ }
+    ensures { λ r. ⌜ Completed (now (regs .entry)) (now (pages .entry)) used w t e r (now (regs .exit)) (now (pages .exit)) ⌝ }
 {
     settle(w, pages, used, t, e);
     step::set_reg(regs, e.dest, e.value);
@@ -137,7 +133,6 @@ fn complete(
             next: e.next,
             hi: e.hi,
             lo: e.lo,
-            step: bits::plus(k.step, 1),
         },
         data: w,
     }
@@ -166,7 +161,7 @@ fn rarely(
             data: w,
         };
     };
-    complete(k, regs, pages, used, w, t, e)
+    complete(regs, pages, used, w, t, e)
 }
 
 // One step of the instruction at an aligned pc.
@@ -196,7 +191,19 @@ fn once(
     let Effect::Done(e) = effect else {
         return rarely(c, k, word, regs, pages, used, w, t, mem);
     };
-    complete(k, regs, pages, used, w, t, e)
+    complete(regs, pages, used, w, t, e)
+}
+
+// The step counter is one more with each step, so it is reckoned at the end.
+fn after(c: Cpu, k: Core, count: u64) -> Went
+    ensures { λ r. ⌜ r ≡ record { cpu = cpuWith c k count; count = count } ⌝ }
+{
+    let mut cpu = c.with_core(k);
+    if count == 0 {
+        return Went { cpu, count };
+    }
+    cpu.step = bits::plus(c.step, count);
+    Went { cpu, count }
 }
 
 // Steps, until one is not made here or as many as the budget are.
@@ -212,32 +219,20 @@ pub(crate) fn go(c: Cpu, regs: &mut [u64; 32], pages: &mut [u8], used: usize, bu
     let mut count = 0;
     while count < budget {
         if core.pc % 4 != 0 {
-            return Went {
-                cpu: c.with_core(core),
-                count,
-            };
+            return after(c, core, count);
         }
         code = code.to(pages, used, core.pc);
         if !code.has(core.pc) {
-            return Went {
-                cpu: c.with_core(core),
-                count,
-            };
+            return after(c, core, count);
         }
         let word = code.word(pages, used, core.pc);
         let q = once(c, core, word, regs, pages, used, data);
         if !q.made {
-            return Went {
-                cpu: c.with_core(core),
-                count,
-            };
+            return after(c, core, count);
         }
         core = q.core;
         data = q.data;
         count += 1;
     }
-    Went {
-        cpu: c.with_core(core),
-        count,
-    }
+    after(c, core, count)
 }

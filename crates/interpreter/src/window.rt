@@ -9,7 +9,7 @@ ghost use Rattle.pages.specs.Calls.{stored, setDef};
 ghost use Rattle.pages.specs.declared.memory.Stored.the-variants.{Used};
 ghost use Rattle.interpreter.specs.Parts.{Shows};
 ghost use Rattle.interpreter.specs.declared.window.Window.{Window};
-use pages::bytes;
+use pages::inside;
 use pages::page;
 use pages::page::Lookup;
 use pages::page::Page;
@@ -64,14 +64,14 @@ impl Window {
         requires { ⌜ Shows (now pages) used self × (address / 4096 ≡ self .number) × (address % 4 ≡ 0) ⌝ }
         ensures { λ r. ⌜ r ≡ big 4 (byteAt (now (pages .entry)) used) address ⌝ }
     {
-        bytes::word_at(pages, self.at + (address % Page::ADDRESSES) as usize)
+        inside::word_at(pages, self.at + (address % Page::ADDRESSES) as usize)
     }
 
     pub(crate) fn doubleword(self, pages: &[u8], used: usize, address: u64) -> u64
         requires { ⌜ Shows (now pages) used self × (address / 4096 ≡ self .number) × (address % 8 ≡ 0) ⌝ }
         ensures { λ r. ⌜ r ≡ big 8 (byteAt (now (pages .entry)) used) address ⌝ }
     {
-        bytes::doubleword_at(pages, self.at + (address % Page::ADDRESSES) as usize)
+        inside::doubleword_at(pages, self.at + (address % Page::ADDRESSES) as usize)
     }
 
     // A store in the page: every page stays where it is.
@@ -79,6 +79,6 @@ impl Window {
         requires { ⌜ Shows (now pages) used self × (address / 4096 ≡ self .number) × (address % 8 ≡ 0) ⌝ }
         ensures { λ _. ⌜ (stored (Used used) (now (pages .exit)) ≡ setDef 8 (now (pages .entry)) used address value) × ((w : Window) → Shows (now (pages .entry)) used w → Shows (now (pages .exit)) used w) ⌝ }
     {
-        bytes::put_doubleword(pages, self.at + (address % Page::ADDRESSES) as usize, value);
+        inside::put_doubleword(pages, self.at + (address % Page::ADDRESSES) as usize, value);
     }
 }

@@ -2,7 +2,7 @@
 // A record is 4,104 bytes: the page's number in eight bytes, big-endian, and then its 4,096 bytes.
 
 // Numbers and runs of bytes at a place of a slice.
-mod inside;
+pub mod inside;
 
 // The same at any place, for the layers above.
 pub mod bytes;

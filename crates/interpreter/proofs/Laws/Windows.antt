@@ -6,9 +6,10 @@ use Prim.Native.Nat.{ℕ, _+_, _*_, _/_, _%_, _^_, _≤_, _<_}
 use native.Mathlib.Omega.{arith}
 use lib.ListN.{length}
 use borrow.Author.Tests.{eqb-true}
-use Rattle.pages.specs.Bytes.{big, bytesOf}
+use lib.Seq.{sets}
+use Rattle.pages.specs.Bytes.{cell, big, bytesOf}
 use Rattle.pages.specs.Pages.{lookup, byteAt}
-use Rattle.pages.specs.Calls.{numberAt, putDef, stored, setDef}
+use Rattle.pages.specs.Calls.{stored, setDef}
 use Rattle.pages.specs.declared.page.Lookup.the-variants.{Record}
 use Rattle.pages.specs.declared.memory.Stored.the-variants.{Used}
 use Rattle.pages.proofs.Laws.Found.{found-room, found-number, found-store, found-kept}
@@ -34,17 +35,17 @@ module _ (p : List ℕ) (u : ℕ) (w : Window) (a : ℕ) (small : a < 2 ^ 64) (e
   pub window-room : (n : ℕ) → a % 4096 + n ≤ 4096 → Shows p u w → w .at + a % 4096 + n ≤ length p
   window-room n h s = let f = found s in let r = found-room p u a (f .i) (f .is) n h in let g = f .at in omega arith
 
-  pub window-number : (n : ℕ) → a % 4096 + n ≤ 4096 → Shows p u w → numberAt n p (w .at + a % 4096) ≡ big n (byteAt p u) a
-  window-number n h s = let f = found s in ap (numberAt n p) (place s) ∙ found-number p u a (f .i) (f .is) n h
+  pub window-number : (n : ℕ) → a % 4096 + n ≤ 4096 → Shows p u w → big n (cell p) (w .at + a % 4096) ≡ big n (byteAt p u) a
+  window-number n h s = let f = found s in ap (big n (cell p)) (place s) ∙ found-number p u a (f .i) (f .is) n h
 
-  pub window-store : (v : ℕ) → a % 8 ≡ 0 → Shows p u w → stored (Used u) (putDef p (w .at + a % 4096) (bytesOf 8 v)) ≡ setDef 8 p u a v
-  window-store v h s = let f = found s in ap (λ k. stored (Used u) (putDef p k (bytesOf 8 v))) (place s) ∙ found-store p u a (f .i) (f .is) v h
+  pub window-store : (v : ℕ) → a % 8 ≡ 0 → Shows p u w → stored (Used u) (sets p (w .at + a % 4096) (bytesOf 8 v)) ≡ setDef 8 p u a v
+  window-store v h s = let f = found s in ap (λ k. stored (Used u) (sets p k (bytesOf 8 v))) (place s) ∙ found-store p u a (f .i) (f .is) v h
 
-  pub window-kept : (v : ℕ) → a % 8 ≡ 0 → Shows p u w → (z : Window) → Shows p u z → Shows (putDef p (w .at + a % 4096) (bytesOf 8 v)) u z
+  pub window-kept : (v : ℕ) → a % 8 ≡ 0 → Shows p u w → (z : Window) → Shows p u z → Shows (sets p (w .at + a % 4096) (bytesOf 8 v)) u z
   window-kept v h s z (nowhere n) = nowhere n
   window-kept v h s z (standing i l g) =
       let f = found s in
-      standing i (ap (λ k. lookup (putDef p k (bytesOf 8 v)) u (z .number)) (place s) ∙ found-kept p u a (f .i) (f .is) v h (z .number) ∙ l) g
+      standing i (ap (λ k. lookup (sets p k (bytesOf 8 v)) u (z .number)) (place s) ∙ found-kept p u a (f .i) (f .is) v h (z .number) ∙ l) g
 
 -- touched eight bytes that are covered lie in the page
 pub covered-at : (w : Window) {t : Touch} (a : ℕ) → t ≡ Eight a → covered w t ≡ true → a / 4096 ≡ w .number

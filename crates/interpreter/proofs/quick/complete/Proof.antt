@@ -6,8 +6,8 @@ use Rattle.interpreter.proofs.quick.complete.Tie as tie
 
 returns : tie.Need-returns
 unfolding coreAfter
-returns c = record { made = refl; core = rw (c .plus .ensures); window = refl; regs = c .before .set-reg .ensures; pages = c .before .before .before .before .before .settle .ensures .0; kept = c .before .before .before .before .before .settle .ensures .1 }
+returns c = record { made = refl; core = refl; window = refl; regs = c .set-reg .ensures; pages = c .before .before .before .before .settle .ensures .0; kept = c .before .before .before .before .settle .ensures .1 }
 
 pub complete-spec : {M : Type 1} → statement M
 complete-spec =
-    tie.close (tie.spec (λ c κs. search needs) (λ c κs. search needs) (λ c κs. search needs) (λ c. search needs) returns)
+    tie.close (tie.spec (λ c κs. search needs) (λ c κs. search needs) (λ c. search needs) returns)

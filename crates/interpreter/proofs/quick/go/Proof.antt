@@ -20,7 +20,7 @@ Inv-loop c regs₀ pages₀ used budget core₀ code₀ data₀ count₀ regs pa
     × Shows pages used code
     × Shows pages used «data»
     × (length pages ≡ length pages₀)
-    × ((y h o x d : List ℕ) → bad (machine c regs₀ y used pages₀ h o) ≡ false → Gone c used regs₀ pages₀ budget (record { cpu = cpuWith c core; count = count }) regs pages y h o x d)
+    × ((y h o x d : List ℕ) → bad (machine c regs₀ y used pages₀ h o) ≡ false → Gone c used regs₀ pages₀ budget (record { cpu = cpuWith c core count; count = count }) regs pages y h o x d)
 
 abbrev μ-loop : tie.MeasureT-loop
 μ-loop c regs₀ pages₀ used budget core₀ code₀ data₀ count₀ regs pages core code «data» count =
@@ -36,7 +36,7 @@ same-length : tie.Need-same-length Inv-loop μ-loop
 same-length c = c .before .before .before .before .loop .inv .3
 
 returns-2 : tie.Need-returns-2 Inv-loop μ-loop
-returns-2 c = λ y h o x d b. gone-here _ _ _ _ _ y h o x d _ (c .with-core .ensures) (c .before .before .before .before .loop .inv .4 y h o x d b)
+returns-2 c = λ y h o x d b. gone-here _ _ _ _ _ y h o x d _ _ (c .after .ensures) (c .before .before .before .before .loop .inv .4 y h o x d b)
 
 to-requires : tie.Need-to-requires Inv-loop μ-loop
 to-requires c κs = c .before .before .before .before .loop .inv .1
@@ -45,7 +45,7 @@ same-length-2 : tie.Need-same-length-2 Inv-loop μ-loop
 same-length-2 c = c .before .before .before .before .before .before .before .before .loop .inv .3
 
 returns-3 : tie.Need-returns-3 Inv-loop μ-loop
-returns-3 c = λ y h o x d b. gone-here _ _ _ _ _ y h o x d _ (c .with-core2 .ensures) (c .before .before .before .before .before .before .before .before .loop .inv .4 y h o x d b)
+returns-3 c = λ y h o x d b. gone-here _ _ _ _ _ y h o x d _ _ (c .after2 .ensures) (c .before .before .before .before .before .before .before .before .loop .inv .4 y h o x d b)
 
 word-requires : tie.Need-word-requires Inv-loop μ-loop
 word-requires c κs = (c .before .before .before .to .ensures, eqb-true _ _ (sym (c .before .before .has .ensures) ∙ on _ (c .before .if3 .left)), c .before .before .before .before .before .if2 .left)
@@ -57,7 +57,7 @@ same-length-3 : tie.Need-same-length-3 Inv-loop μ-loop
 same-length-3 c = c .before .before .before .before .pages .given ∙ c .before .before .before .before .before .before .before .before .before .before .before .before .before .before .before .before .before .loop .inv .3
 
 returns-4 : tie.Need-returns-4 Inv-loop μ-loop
-returns-4 c = λ y h o x d b. gone-stays _ _ _ _ _ y h o x d _ (c .before .before .before .before .before .once .ensures) (off _ (c .before .if4 .taken)) (c .with-core3 .ensures) (c .before .before .before .before .before .before .before .before .before .before .before .before .before .before .before .before .before .loop .inv .4 y h o x d b)
+returns-4 c = λ y h o x d b. gone-stays _ _ _ _ _ y h o x d _ _ (c .before .before .before .before .before .once .ensures) (off _ (c .before .if4 .taken)) (c .after3 .ensures) (c .before .before .before .before .before .before .before .before .before .before .before .before .before .before .before .before .before .loop .inv .4 y h o x d b)
 
 add-count : tie.Need-add-count Inv-loop μ-loop
 add-count c = let l = c .before .before .before .before .before .before .before .before .before .before .before .before .before .before .before .before .before .loop-test .taken in omega (arith, l, c .before .before .before .before .before .before .before .before .before .before .before .before .before .before .before .before .before .before .before .before .before .before .before .before .fits .budget .fits)
@@ -66,13 +66,13 @@ loop-less : tie.Need-loop-less Inv-loop μ-loop
 loop-less c = let l = c .before .before .before .before .before .before .before .before .before .before .before .before .before .before .before .before .before .loop-test .taken in omega (arith, l)
 
 loop-again : tie.Need-loop-again Inv-loop μ-loop
-loop-again c = (let l = c .before .before .before .before .before .before .before .before .before .before .before .before .before .before .before .before .before .loop-test .taken in omega (arith, l), turned-kept (c .before .before .before .before .before .before .once .ensures) (on _ (c .before .before .if4 .left)) (c .before .before .before .before .before .before .before .before .before .before .before .before .before .to .ensures), turned-shows (c .before .before .before .before .before .before .once .ensures) (on _ (c .before .before .if4 .left)), c .before .before .before .before .before .pages .given ∙ c .before .before .before .before .before .before .before .before .before .before .before .before .before .before .before .before .before .before .loop .inv .3, λ y h o x d b. gone-turn _ _ _ _ _ y h o x d (c .before .before .before .before .before .before .before .before .before .before .before .before .before .before .before .before .before .before .before .before .before .before .if1 .left) (c .before .before .before .before .before .before .before .before .before .before .before .before .before .before .before .before .before .loop-test .taken) (c .before .before .before .before .before .before .before .before .before .word .ensures) (c .before .before .before .before .before .before .once .ensures) (on _ (c .before .before .if4 .left)) (c .before .before .before .before .before .before .before .before .before .before .before .before .before .before .before .before .before .before .loop .inv .4 y h o x d b))
+loop-again c = (let l = c .before .before .before .before .before .before .before .before .before .before .before .before .before .before .before .before .before .loop-test .taken in omega (arith, l), turned-kept (c .before .before .before .before .before .before .once .ensures) (on _ (c .before .before .if4 .left)) (c .before .before .before .before .before .before .before .before .before .before .before .before .before .to .ensures), turned-shows (c .before .before .before .before .before .before .once .ensures) (on _ (c .before .before .if4 .left)), c .before .before .before .before .before .pages .given ∙ c .before .before .before .before .before .before .before .before .before .before .before .before .before .before .before .before .before .before .loop .inv .3, λ y h o x d b. gone-turn _ _ _ _ _ y h o x d _ _ (c .before .before .before .before .before .before .before .before .before .before .before .before .before .before .before .before .before .before .before .before .before .before .if1 .left) (c .before .before .before .before .before .before .before .before .before .before .before .before .before .before .before .before .before .loop-test .taken) (c .before .before .before .before .before .before .before .before .before .word .ensures) (c .before .before .before .before .before .before .once .ensures) (on _ (c .before .before .if4 .left)) (c .before .before .before .before .before .before .before .before .before .before .before .before .before .before .before .before .before .before .loop .inv .4 y h o x d b))
 
 same-length-4 : tie.Need-same-length-4 Inv-loop μ-loop
 same-length-4 c = c .before .before .loop .inv .3
 
 returns-5 : tie.Need-returns-5 Inv-loop μ-loop
-returns-5 c = λ y h o x d b. gone-here _ _ _ _ _ y h o x d _ (c .with-core4 .ensures) (c .before .before .loop .inv .4 y h o x d b)
+returns-5 c = λ y h o x d b. gone-here _ _ _ _ _ y h o x d _ _ (c .after4 .ensures) (c .before .before .loop .inv .4 y h o x d b)
 
 pub go-spec : {M : Type 1} → statement M
 go-spec =
