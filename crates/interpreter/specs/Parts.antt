@@ -1,14 +1,14 @@
 -- What the code's private parts answer and leave. No public promise rests on these.
-use Prim.Native.Nat.{ℕ, zero, suc, _+_, _-_, _*_, _/_, _≤_}
+use Prim.Native.Nat.{ℕ, zero, suc, _+_, _-_, _*_, _/_, _%_, _≤_}
 use mathlib.Core.Path.{_≡_}
 use mathlib.Core.Bool.{Bool, true, false, cond}
 use mathlib.Core.List.{List, [], _++_}
 use lib.Dec.{eqb, leb, ltb}
 use lib.ListN.{length}
 use lib.Seq.{sets}
-use Rattle.pages.specs.Bytes.{cell, row}
+use Rattle.pages.specs.Bytes.{cell, row, big}
 use Rattle.pages.specs.Memory.{Memory, span}
-use Rattle.pages.specs.Pages.{lookup}
+use Rattle.pages.specs.Pages.{lookup, byteAt}
 use Rattle.pages.specs.Calls.{stored}
 use Rattle.pages.specs.declared.page.Lookup.the-variants.{Record}
 use Rattle.pages.specs.declared.memory.Stored.the-variants.{Used}
@@ -30,6 +30,7 @@ use Rattle.interpreter.specs.declared.effect.Effect.the-variants.{Done}
 use Rattle.interpreter.specs.declared.window.Window.{Window}
 use Rattle.interpreter.specs.declared.quick.Core.{Core}
 use Rattle.interpreter.specs.declared.quick.Turn.{Turn}
+use Rattle.interpreter.specs.declared.quick.Fetched.{Fetched}
 use Rattle.interpreter.specs.declared.quick.Went.{Went}
 use Rattle.interpreter.specs.declared.effect.Touch.the-variants.{Nothing, Eight}
 use Rattle.interpreter.specs.declared.shown.Made.the-variants.{Wide, Stepped}
@@ -165,6 +166,12 @@ pub data Turned (c : Cpu) (k : Core) (w u : ℕ) (r p : List ℕ) (q : Turn) (r'
   makes : q .made ≡ true → Shows p' u (q .data) → ((v : Window) → Shows p u v → Shows p' u v)
       → ((n : ℕ) (y h o x d : List ℕ) → left SteppedBy (machine (cpuWith c (q .core) (n + 1)) r' y u p' h o) true ≡ working x d (machine (counted (cpuWith c k n)) r y u p h o) (λ s. executing s w (touchOf (s .regs) w)))
       → Turned c k w u r p q r' p'
+
+-- the word at pc, where it was found
+pub record Fetches (p : List ℕ) (u pc : ℕ) (f : Fetched) : Type 0 where
+  pub shows : Shows p u (f .code)
+  pub aligned : f .found ≡ true → pc % 4 ≡ 0
+  pub word : f .found ≡ true → f .word ≡ big 4 (byteAt p u) pc
 
 -- the run of a machine that is not refused with 1 is so many steps, and the rest
 pub record Gone (c : Cpu) (u : ℕ) (r p : List ℕ) (budget : ℕ) (e : Went) (r' p' : List ℕ) (y h o x d : List ℕ) : Type 0 where

@@ -20,7 +20,7 @@ mod stores;
 // handle_branch and handle_jump.
 mod branches;
 
-// The kernel (cpu.rs): an instruction as a pure function.
+// The kernel (cpu.rs): an instruction as a pure function; and the frequent instructions of it, for runs.
 pub mod cpu;
 mod frequent;
 
@@ -36,9 +36,11 @@ mod syscall;
 pub mod utf8;
 
 // One step, its record, the step repeated, and the step that a record shows.
-mod quick;
 pub mod record;
 pub mod run;
 pub mod shown;
 pub mod step;
+
+// What a run does quickly: many plain instructions in a row, on the page that was looked up last.
+mod quick;
 mod window;

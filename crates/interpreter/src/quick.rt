@@ -3,14 +3,14 @@
 ghost use mathlib.Core.Path.{_≡_};
 ghost use mathlib.Core.Bool.{true, false};
 ghost use mathlib.Core.List.{List};
-ghost use Prim.Native.Nat.{ℕ, _/_, _%_, _<_, _≤_};
+ghost use Prim.Native.Nat.{ℕ, _/_, _%_, _<_};
 ghost use Rattle.pages.specs.Pages.{byteAt};
 ghost use Rattle.pages.specs.Calls.{stored};
 ghost use Rattle.pages.specs.declared.memory.Stored.the-variants.{Used};
-ghost use Rattle.interpreter.specs.Machine.{setReg, machine, bad};
+ghost use Rattle.interpreter.specs.Machine.{machine, bad};
 ghost use Rattle.interpreter.specs.Plan.{eightAt, storing, touchOf};
 ghost use Rattle.interpreter.specs.Step.{putting};
-ghost use Rattle.interpreter.specs.Parts.{Shows, covered, coreOf, cpuWith, Completed, Turned, Gone};
+ghost use Rattle.interpreter.specs.Parts.{Shows, covered, coreOf, cpuWith, Completed, Turned, Fetches, Gone};
 ghost use Rattle.interpreter.specs.declared.window.Window.{Window};
 ghost use Rattle.interpreter.specs.declared.effect.Touch.the-variants.{Eight};
 use crate::bits;
@@ -36,6 +36,13 @@ pub(crate) struct Turn {
     pub made: bool,
     pub core: Core,
     pub data: Window,
+}
+
+// The word at pc, where pc is aligned and its page is there, and that page.
+pub(crate) struct Fetched {
+    pub found: bool,
+    pub code: Window,
+    pub word: u64,
 }
 
 // How far the steps went.
@@ -206,7 +213,35 @@ fn after(c: Cpu, k: Core, count: u64) -> Went
     Went { cpu, count }
 }
 
-// Steps, until one is not made here or as many as the budget are.
+fn fetch(w: Window, pages: &[u8], used: usize, pc: u64) -> Fetched
+    requires { ⌜ Shows (now pages) used w ⌝ }
+    ensures { λ r. ⌜ Fetches (now (pages .entry)) used pc r ⌝ }
+{
+    if pc % 4 != 0 {
+        return Fetched {
+            found: false,
+            code: w,
+            word: 0,
+        };
+    }
+    let code = w.to(pages, used, pc);
+    if !code.has(pc) {
+        return Fetched {
+            found: false,
+            code,
+            word: 0,
+        };
+    }
+    let word = code.word(pages, used, pc);
+    Fetched {
+        found: true,
+        code,
+        word,
+    }
+}
+
+// Steps, until one is not made here or as many as the budget are. A turn ends with the fetch for the next one: so the word is
+// one load for the compiler, where it would else take the fields out of single bytes.
 pub(crate) fn go(c: Cpu, regs: &mut [u64; 32], pages: &mut [u8], used: usize, budget: u64) -> Went
     ensures { λ r. ⌜ ((y h o x d : List ℕ) → bad (machine c (now (regs .entry)) y used (now (pages .entry)) h o) ≡ false → Gone c used (now (regs .entry)) (now (pages .entry)) budget r (now (regs .exit)) (now (pages .exit)) y h o x d) ⌝ }
 {
@@ -214,24 +249,20 @@ pub(crate) fn go(c: Cpu, regs: &mut [u64; 32], pages: &mut [u8], used: usize, bu
         return Went { cpu: c, count: 0 };
     }
     let mut core = c.core();
-    let mut code = Window::none();
     let mut data = Window::none();
+    let mut fetched = fetch(Window::none(), pages, used, core.pc);
     let mut count = 0;
     while count < budget {
-        if core.pc % 4 != 0 {
+        if !fetched.found {
             return after(c, core, count);
         }
-        code = code.to(pages, used, core.pc);
-        if !code.has(core.pc) {
-            return after(c, core, count);
-        }
-        let word = code.word(pages, used, core.pc);
-        let q = once(c, core, word, regs, pages, used, data);
+        let q = once(c, core, fetched.word, regs, pages, used, data);
         if !q.made {
             return after(c, core, count);
         }
         core = q.core;
         data = q.data;
+        fetched = fetch(fetched.code, pages, used, core.pc);
         count += 1;
     }
     after(c, core, count)

@@ -1,4 +1,5 @@
-// Big-endian numbers and runs of bytes at a place of a slice. The callers in this crate keep the places inside.
+// Big-endian numbers and runs of bytes at a place of a slice. The callers keep the places inside: this crate's, and a run, which
+// knows it of the page that it looked up.
 ghost use mathlib.Core.Path.{_≡_};
 ghost use Prim.Native.Nat.{_+_, _<_, _≤_};
 ghost use lib.Dec.{leb};

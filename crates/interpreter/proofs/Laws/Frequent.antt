@@ -1,7 +1,6 @@
 -- A quick answer that agrees with the definition.
 use mathlib.Core.Path.{_≡_, sym, subst, _∙_}
 use Rattle.interpreter.specs.Parts.{Agrees}
-use Rattle.interpreter.specs.declared.effect.Change.{Change}
 use Rattle.interpreter.specs.declared.effect.Effect.{Effect}
 use Rattle.interpreter.specs.declared.effect.Effect.the-variants.{Refused, Done, Call}
 

@@ -1,6 +1,6 @@
 use Rattle.interpreter.proofs.Laws.Windows.{covered-at}
 use mathlib.Core.Path.{_∙_}
-use mathlib.Core.Path.{_∙_, sym, ap}
+use mathlib.Core.Path.{_∙_}
 use borrow.Author.Needs.{needs}
 use Rattle.interpreter.proofs.quick.settle.Statement.{statement}
 use Rattle.interpreter.proofs.quick.settle.Tie as tie

@@ -1,7 +1,6 @@
 use Rattle.interpreter.proofs.Laws.Windows.{covered-at}
 use mathlib.Core.Path.{_∙_}
-use Rattle.interpreter.specs.Parts.{covered}
-use mathlib.Core.Path.{_∙_, sym, ap}
+use mathlib.Core.Path.{_∙_}
 use borrow.Author.Needs.{needs}
 use Rattle.interpreter.proofs.quick.touched.Statement.{statement}
 use Rattle.interpreter.proofs.quick.touched.Tie as tie

@@ -1,8 +1,7 @@
 use Rattle.interpreter.specs.Parts.{standing}
 use Rattle.pages.proofs.Laws.Lookups.{found-at}
 use native.Mathlib.Omega.{arith}
-use Prim.Native.Nat.{_/_, _<_, _≤_}
-use mathlib.Core.Path.{_≡_, refl, _∙_, sym}
+use mathlib.Core.Path.{refl, _∙_, sym}
 use borrow.Author.Needs.{needs}
 use Rattle.interpreter.proofs.window.Window.to.Statement.{statement}
 use Rattle.interpreter.proofs.window.Window.to.Tie as tie
