@@ -4,6 +4,7 @@ use crate::bytes;
 use crate::vector;
 use crate::vector::Front;
 use interpreter::layout;
+use interpreter::run;
 use interpreter::state::State;
 use interpreter::step;
 use interpreter::step::Answer;
@@ -85,7 +86,32 @@ fn within(n: usize, size: usize) -> usize
     n
 }
 
-// The step, on as many bytes of each buffer as the vector lends.
+// The step, or a run of one: a run has a quicker way for many instructions.
+fn make(
+    s: State,
+    pages: &mut [u8],
+    used: usize,
+    hint: &mut [u8],
+    output: &mut [u8],
+    index: &[u8],
+    data: &[u8],
+    by_run: bool,
+) -> Finished {
+    if by_run {
+        let e = run::run(s, pages, used, hint, output, index, data, 1);
+        let answer = e.answer;
+        let state = e.state;
+        return Finished {
+            answer,
+            state,
+            used: e.used,
+            counts: e.count == 1,
+        };
+    }
+    step::step(s, pages, used, hint, output, index, data)
+}
+
+// The same on as many bytes of each buffer as the vector lends.
 fn stepped(
     s: State,
     f: Front,
@@ -94,13 +120,14 @@ fn stepped(
     output: &mut [u8],
     index: &[u8],
     data: &[u8],
+    by_run: bool,
 ) -> Finished {
     let p = within(f.pages, pages.len());
     let h = within(f.hint, hint.len());
     let o = within(f.output, output.len());
     let i = within(f.index, index.len());
     let d = within(f.data, data.len());
-    step::step(
+    make(
         s,
         &mut pages[..p],
         f.used,
@@ -108,6 +135,7 @@ fn stepped(
         &mut output[..o],
         &index[..i],
         &data[..d],
+        by_run,
     )
 }
 
@@ -154,8 +182,8 @@ fn same_lent(pages: &[u8], hint: &[u8], output: &[u8], p: &[u8], h: &[u8], o: &[
     false
 }
 
-// One vector: whether the step does what the judge saw.
-fn laid(v: &[u8], f: Front) -> bool {
+// One vector: whether the step, or a run of one, does what the judge saw.
+fn laid(v: &[u8], f: Front, by_run: bool) -> bool {
     let fill = f.fill;
     let mut state = [0u8; 360];
     let mut pages = [fill; 20519];
@@ -178,7 +206,16 @@ fn laid(v: &[u8], f: Front) -> bool {
     let mut o = output;
     lay_after(v, at, &mut state, &mut p, &mut h, &mut o);
     let s = start.state;
-    let got = stepped(s, f, &mut pages, &mut hint, &mut output, &index, &data);
+    let got = stepped(
+        s,
+        f,
+        &mut pages,
+        &mut hint,
+        &mut output,
+        &index,
+        &data,
+        by_run,
+    );
     if same_lent(&pages, &hint, &output, &p, &h, &o) {
         if start.formed {
             return same_finish(got, f, &state);
@@ -189,7 +226,9 @@ fn laid(v: &[u8], f: Front) -> bool {
 
 pub fn replay(v: &[u8], f: Front) -> bool {
     if fits(f) {
-        return laid(v, f);
+        if laid(v, f, false) {
+            return laid(v, f, true);
+        }
     }
     false
 }

@@ -1,5 +1,5 @@
-// Replays the fixed lists of whole steps that the unchanged Rust (rules 0) and QEMU (rules 1) made, and says of each
-// list how many steps differ. compare/README.md says how the lists are made and what their form is.
+// Replays the fixed lists of whole steps that the unchanged Rust (rules 0) and QEMU (rules 1) made, each by `step` and by a
+// `run` of one, and says of each list how many steps differ. compare/README.md says how the lists are made and what their form is.
 mod bytes;
 mod machine;
 mod vector;
