@@ -3,7 +3,7 @@
 ghost use mathlib.Core.Path.{_≡_};
 ghost use mathlib.Core.Bool.{true, false};
 ghost use mathlib.Core.List.{List};
-ghost use Prim.Native.Nat.{ℕ, _/_, _%_, _<_};
+ghost use Prim.Native.Nat.{ℕ, _%_, _<_};
 ghost use Rattle.pages.specs.Pages.{byteAt};
 ghost use Rattle.pages.specs.Calls.{stored};
 ghost use Rattle.pages.specs.declared.memory.Stored.the-variants.{Used};
@@ -213,6 +213,7 @@ fn after(c: Cpu, k: Core, count: u64) -> Went
     Went { cpu, count }
 }
 
+// The word at pc, by way of the page that the last one came from.
 fn fetch(w: Window, pages: &[u8], used: usize, pc: u64) -> Fetched
     requires { ⌜ Shows (now pages) used w ⌝ }
     ensures { λ r. ⌜ Fetches (now (pages .entry)) used pc r ⌝ }
