@@ -164,19 +164,7 @@ impl<L: Lookup> Store<L> {
 }
 
 impl<L: Lookup> Memory for Store<L> {
-    type Proof = ();
-
-    fn page_count(&self) -> usize {
-        self.used
-    }
-
-    fn merkleize(&mut self) -> Result<B256> {
-        unimplemented!("roots are not compared")
-    }
-
-    fn proof(&mut self, _: Address) -> Result<()> {
-        unimplemented!("proofs are not compared")
-    }
+    judge::without_proofs!();
 
     fn alloc_page(&mut self, number: PageIndex) -> Result<&mut Page> {
         let record = self.used;

@@ -1,14 +1,12 @@
 // The instructions that programs are mostly made of, found by one table or two. A run tries these first: what is not here, and
 // what is refused, is left to the kernel and the step.
 ghost use mathlib.Core.Path.{_≡_};
-ghost use mathlib.Core.Bool.{not, _&&_};
-ghost use Prim.Native.Nat.{_<_, _%_};
-ghost use lib.Dec.{eqb};
+ghost use Prim.Native.Nat.{_<_};
 ghost use Rattle.interpreter.specs.Words.{sext};
 ghost use Rattle.interpreter.specs.Isa.{shamtOf, immOf};
 ghost use Rattle.interpreter.specs.OpcodeMap.{special, decodeBy, decode};
 ghost use Rattle.interpreter.specs.Effects.{toRt, storing};
-ghost use Rattle.interpreter.specs.Loads.{addressOf, offsetOf, aligned};
+ghost use Rattle.interpreter.specs.Loads.{offsetOf, aligned};
 ghost use Rattle.interpreter.specs.Kernel.{after, does};
 ghost use Rattle.interpreter.specs.Parts.{Agrees};
 use crate::alu;
@@ -17,6 +15,7 @@ use crate::branches;
 use crate::cpu;
 use crate::effect::Effect;
 use crate::effect::Ins;
+use crate::effect::Outcome;
 use crate::effect::Refusal;
 use crate::isa::IType;
 use crate::isa::Opcode;
@@ -51,26 +50,17 @@ fn offset(i: Ins) -> u64
     i.address() % 8
 }
 
-// Whether an access of n bytes is refused.
-fn is_off(i: Ins, n: u64) -> bool
-    requires { ⌜ 0 < n ⌝ }
-    ensures { λ r. ⌜ r ≡ (not (eqb (i .rules) 0) && not (eqb (addressOf (i .word) (i .rs) % n) 0)) ⌝ }
-{
-    if i.rules == 0 {
-        return false;
-    }
-    i.address() % n != 0
-}
-
 // A load of n bytes that gives v.
 fn loading(i: Ins, n: u64, v: u64) -> Effect
     requires { ⌜ 0 < n ⌝ }
     ensures { λ r. ⌜ r ≡ after (toRt i) (aligned i n v) ⌝ }
 {
-    if is_off(i, n) {
-        return Effect::Refused(Refusal::AddressError);
+    let loaded = loads::aligned(i, n, v);
+    match loaded {
+        Outcome::Value(x) => i.to_rt(x),
+        Outcome::Trapped(refusal) => Effect::Refused(refusal),
+        Outcome::Unknown => Effect::Refused(Refusal::Reserved),
     }
-    i.to_rt(v)
 }
 
 // A store of n bytes that makes the eight bytes m.
@@ -78,10 +68,12 @@ fn keeping(i: Ins, n: u64, m: u64) -> Effect
     requires { ⌜ 0 < n ⌝ }
     ensures { λ r. ⌜ r ≡ after (storing i 0 0) (aligned i n m) ⌝ }
 {
-    if is_off(i, n) {
-        return Effect::Refused(Refusal::AddressError);
+    let kept = loads::aligned(i, n, m);
+    match kept {
+        Outcome::Value(x) => i.storing(0, 0, x),
+        Outcome::Trapped(refusal) => Effect::Refused(refusal),
+        Outcome::Unknown => Effect::Refused(Refusal::Reserved),
     }
-    i.storing(0, 0, m)
 }
 
 // Each arm computes what it needs, so that the jump by the table comes first. `frequent` does the same.

@@ -9,7 +9,7 @@ ghost use Rattle.pages.specs.Calls.{stored, setDef};
 ghost use Rattle.pages.specs.declared.memory.Stored.the-variants.{Used};
 ghost use Rattle.interpreter.specs.Parts.{Shows};
 ghost use Rattle.interpreter.specs.declared.window.Window.{Window};
-use pages::inside;
+use pages::bytes;
 use pages::page;
 use pages::page::Lookup;
 use pages::page::Page;
@@ -60,18 +60,24 @@ impl Window {
         address / Page::ADDRESSES == self.number
     }
 
+    // What is read and written is a part of the slice that is known to lie in it, and its length is plain: so no test of bounds is
+    // left in the code.
     pub(crate) fn word(self, pages: &[u8], used: usize, address: u64) -> u64
         requires { ⌜ Shows (now pages) used self × (address / 4096 ≡ self .number) × (address % 4 ≡ 0) ⌝ }
         ensures { λ r. ⌜ r ≡ big 4 (byteAt (now (pages .entry)) used) address ⌝ }
     {
-        inside::word_at(pages, self.at + (address % Page::ADDRESSES) as usize)
+        let at = self.at + (address % Page::ADDRESSES) as usize;
+        let end = at + 4;
+        bytes::word_at(&pages[at..end], 0)
     }
 
     pub(crate) fn doubleword(self, pages: &[u8], used: usize, address: u64) -> u64
         requires { ⌜ Shows (now pages) used self × (address / 4096 ≡ self .number) × (address % 8 ≡ 0) ⌝ }
         ensures { λ r. ⌜ r ≡ big 8 (byteAt (now (pages .entry)) used) address ⌝ }
     {
-        inside::doubleword_at(pages, self.at + (address % Page::ADDRESSES) as usize)
+        let at = self.at + (address % Page::ADDRESSES) as usize;
+        let end = at + 8;
+        bytes::doubleword_at(&pages[at..end], 0)
     }
 
     // A store in the page: every page stays where it is.
@@ -79,6 +85,8 @@ impl Window {
         requires { ⌜ Shows (now pages) used self × (address / 4096 ≡ self .number) × (address % 8 ≡ 0) ⌝ }
         ensures { λ _. ⌜ (stored (Used used) (now (pages .exit)) ≡ setDef 8 (now (pages .entry)) used address value) × ((w : Window) → Shows (now (pages .entry)) used w → Shows (now (pages .exit)) used w) ⌝ }
     {
-        inside::put_doubleword(pages, self.at + (address % Page::ADDRESSES) as usize, value);
+        let at = self.at + (address % Page::ADDRESSES) as usize;
+        let end = at + 8;
+        bytes::put_doubleword(&mut pages[at..end], 0, value);
     }
 }

@@ -1,5 +1,4 @@
-// Big-endian numbers and runs of bytes at a place of a slice. The callers keep the places inside: this crate's, and a run, which
-// knows it of the page that it looked up.
+// Big-endian numbers and runs of bytes at a place of a slice. The callers in this crate keep the places inside.
 ghost use mathlib.Core.Path.{_≡_};
 ghost use Prim.Native.Nat.{_+_, _<_, _≤_};
 ghost use lib.Dec.{leb};

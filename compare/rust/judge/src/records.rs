@@ -9,6 +9,26 @@ use howitzer::memory::{
 
 use crate::machine::RECORD;
 
+/// What a memory answers about roots and proofs, which nothing here asks for. For a type with a field `used`.
+#[macro_export]
+macro_rules! without_proofs {
+    () => {
+        type Proof = ();
+
+        fn page_count(&self) -> usize {
+            self.used
+        }
+
+        fn merkleize(&mut self) -> Result<B256> {
+            unimplemented!("roots are not compared")
+        }
+
+        fn proof(&mut self, _: Address) -> Result<()> {
+            unimplemented!("proofs are not compared")
+        }
+    };
+}
+
 /// The error of a store for which no record is left. Document 01's refusal 8, outside the compared domain.
 pub const NO_RECORD: &str = "no page record left";
 
@@ -32,19 +52,7 @@ impl Records {
 }
 
 impl Memory for Records {
-    type Proof = ();
-
-    fn page_count(&self) -> usize {
-        self.used
-    }
-
-    fn merkleize(&mut self) -> Result<B256> {
-        unimplemented!("roots are not compared")
-    }
-
-    fn proof(&mut self, _: Address) -> Result<()> {
-        unimplemented!("proofs are not compared")
-    }
+    without_proofs!();
 
     fn alloc_page(&mut self, number: PageIndex) -> Result<&mut Page> {
         let record = self.used;

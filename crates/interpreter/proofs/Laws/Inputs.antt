@@ -8,14 +8,14 @@ use native.Mathlib.Numerals.{add-one}
 use native.Mathlib.Decide.{decLt}
 use native.Mathlib.Omega.{arith}
 use lib.Dec.{eqb, leb}
-use lib.ListN.{length, set, take, drop, length-take, length-drop}
-use lib.Seq.{sets, ext-getD, getD-take, getD-drop}
+use lib.ListN.{length, set, take, drop}
+use lib.Seq.{sets, ext-getD}
 use borrow.Author.Tests.{eq-eqb, ne-eqb, lt-leb, leb-true}
 use Rattle.pages.specs.Bytes.{cell, row, big, bytesOf}
 use Rattle.pages.proofs.Laws.Runs.{length-row, cell-row, sets-next}
 use Rattle.pages.proofs.Laws.Numbers.{length-bytes}
 use Rattle.pages.specs.Calls.{numberAt, putDef}
-use Rattle.pages.proofs.Laws.Places.{number-fits, put-fits, cell-left, cell-past, sets-whole, row-whole}
+use Rattle.pages.proofs.Laws.Places.{number-fits, put-fits, cell-left, cell-past, sets-whole, length-part, cell-part, row-whole}
 use Rattle.interpreter.proofs.Laws.Tests.{leb-rest}
 use Rattle.interpreter.specs.Inputs.{same, hasKey, entryAt, firstEntry, entryOf, inside, partDef, content, moving, moved, merged, shifted}
 use Rattle.interpreter.specs.declared.input.Entry.{Entry}
@@ -115,12 +115,10 @@ module _ (d : List ℕ) (s n : ℕ) where
       rw e (ext-getD 0 (take n (drop s d)) (row (cell d) s n) (l ∙ sym (length-row (cell d) s n)) each)
     where
       l : length (take n (drop s d)) ≡ n
-      l = simp (length-take, length-drop) (omega arith)
+      l = length-part d s n h
 
       each : (i : ℕ) → i < length (take n (drop s d)) → cell (take n (drop s d)) i ≡ cell (row (cell d) s n) i
-      each i m =
-          let k : i < n = omega (arith, l) in
-          getD-take n (drop s d) i 0 k ∙ getD-drop s d i 0 ∙ sym (cell-row (cell d) s n i k)
+      each i m = let k : i < n = omega (arith, l) in cell-part d s n h i k ∙ sym (cell-row (cell d) s n i k)
 
   pub part-in : inside d s n ≡ true → take (s + n - s) (drop s d) ≡ partDef d s n
   unfolding partDef

@@ -3,12 +3,12 @@ use mathlib.Core.Path.{_≡_, refl, sym, ap, _∙_}
 use mathlib.Core.Bool.{Bool, true, false, cond}
 use mathlib.Core.List.{List, [], _∷_, _++_, append-nil, append-assoc}
 use Prim.Native.Nat.{ℕ, zero, suc, _+_, _-_, _*_, _/_, _%_, _^_, _≤_, _<_}
-use native.Mathlib.Nat.{add-zero, zero-add, add-suc, suc-add, pow-suc}
+use native.Mathlib.Nat.{add-zero, zero-add, add-suc, suc-add, pow-suc, le-refl}
 use native.Mathlib.Decide.{decLe}
 use native.Mathlib.Omega.{arith}
 use lib.Dec.{leb}
 use lib.ListN.{length, set, drop, take, length-drop, take-append-drop, List·getD-append, drop-of-length-le}
-use lib.Seq.{sets, sets-eq, length-sets, length-take-le, drop-drop, getD-append-add, ext-getD}
+use lib.Seq.{sets, sets-eq, length-sets, length-take-le, drop-drop, getD-append-add, getD-take, getD-drop, ext-getD}
 use borrow.Author.Tests.{le-leb, lt-leb, leb-true, leb-false}
 use Rattle.pages.specs.Bytes.{cell, row, big, bytesOf}
 use Rattle.pages.specs.Calls.{numberAt, putDef, copyDef}
@@ -119,6 +119,22 @@ module _ (s : List ℕ) (at n : ℕ) (fits : at + n ≤ length s) where
 
   pub part-kept : take at s ++ (take n (drop at s) ++ drop n (drop at s)) ≡ s
   part-kept = rw (take-append-drop, take-append-drop)
+
+  pub cell-part : (k : ℕ) → k < n → cell (take n (drop at s)) k ≡ cell s (at + k)
+  cell-part k h = getD-take n (drop at s) k 0 h ∙ getD-drop at s k 0
+
+  -- a number that fills the part
+  pub part-read : numberAt n (take (at + n - at) (drop at s)) 0 ≡ big n (cell s) at
+  part-read =
+      let e : at + n - at ≡ n = omega arith in
+      rw e (number-fits n (take n (drop at s)) 0 (rw (length-part, zero-add) (le-refl n)) ∙ big-ext n (cell (take n (drop at s))) (cell s) 0 at (λ k h. ap (cell (take n (drop at s))) (zero-add k) ∙ cell-part k h))
+
+  -- bytes that fill the part
+  pub part-write : (vs : List ℕ) → length vs ≡ n → {d : List ℕ} → d ≡ putDef (take (at + n - at) (drop at s)) 0 vs → take at s ++ (d ++ drop (at + n - at) (drop at s)) ≡ sets s at vs
+  part-write vs e q =
+      let m : at + n - at ≡ n = omega arith in
+      let whole : putDef (take n (drop at s)) 0 vs ≡ vs = put-fits (take n (drop at s)) 0 vs (rw (length-part, zero-add, e) (le-refl n)) ∙ sets-whole (take n (drop at s)) vs (rw length-part e) in
+      rw (q, m, whole) (part-put vs e)
 
 -- ---- rows
 
