@@ -26,6 +26,10 @@ refusalNumber InputOffset = 11
 refusalNumber HintShort = 12
 refusalNumber HintText = 13
 
+-- the same instruction with the eight bytes m
+unfoldable pub seeing : Ins → ℕ → Ins
+seeing i m = record { rules = i .rules; word = i .word; rs = i .rs; rt = i .rt; pc = i .pc; next = i .next; hi = i .hi; lo = i .lo; mem = m }
+
 -- register d gets v, hi and lo become h and l, and the program goes on with the next instruction
 unfoldable pub changes : Ins → ℕ → ℕ → ℕ → ℕ → Effect
 changes i d v h l = Done (record { dest = d; value = v; pc = i .next; next = plus (i .next) 4; hi = h; lo = l; store = false; mem = i .mem })

@@ -24,10 +24,14 @@ use Rattle.interpreter.specs.declared.record.Seen.{Seen}
 use Rattle.interpreter.specs.declared.run.Reached.{Reached}
 use Rattle.interpreter.specs.declared.hint.Heard.{Heard}
 use Rattle.interpreter.specs.declared.hint.Heard.the-variants.{Keep, HandOut, Refuse}
+use Rattle.interpreter.specs.declared.effect.Ins.{Ins}
 use Rattle.interpreter.specs.declared.effect.Change.{Change}
 use Rattle.interpreter.specs.declared.effect.Effect.{Effect}
-use Rattle.interpreter.specs.declared.effect.Effect.the-variants.{Done}
+use Rattle.interpreter.specs.declared.effect.Effect.the-variants.{Done, Call as CallBy}
 use Rattle.interpreter.specs.declared.window.Window.{Window}
+use Rattle.interpreter.specs.declared.window.Pair.{Pair}
+use Rattle.interpreter.specs.declared.access.Near.{Near}
+use Rattle.interpreter.specs.declared.access.Near.the-variants.{Here, Away}
 use Rattle.interpreter.specs.declared.quick.Core.{Core}
 use Rattle.interpreter.specs.declared.quick.Turn.{Turn}
 use Rattle.interpreter.specs.declared.quick.Fetched.{Fetched}
@@ -35,6 +39,11 @@ use Rattle.interpreter.specs.declared.quick.Went.{Went}
 use Rattle.interpreter.specs.declared.effect.Touch.the-variants.{Nothing, Eight}
 use Rattle.interpreter.specs.declared.shown.Made.the-variants.{Wide, Stepped}
 use Rattle.interpreter.specs.Words.{plus}
+use Rattle.interpreter.specs.Isa.{opcodeOf, functOf}
+use Rattle.interpreter.specs.OpcodeMap.{decode}
+use Rattle.interpreter.specs.Effects.{seeing}
+use Rattle.interpreter.specs.Loads.{addressOf}
+use Rattle.interpreter.specs.Kernel.{does, touching}
 use Rattle.interpreter.specs.Machine.{Machine, machine, reg, setReg, changed, counted, roomOf, bad}
 use Rattle.interpreter.specs.Plan.{Store, keeps, stores, eightAt, storing, callIn, calling, touchOf, executing}
 use Rattle.interpreter.specs.Ideal.{ideal, idealView, remember}
@@ -125,10 +134,40 @@ changeShown c r k t x e = shown (Stepped (changed c e) t (eightAt (remember (sho
 unfoldable pub Agrees : Effect → Effect → Type 0
 Agrees r s = (e : Change) → r ≡ Done e → s ≡ Done e
 
+-- one number for an instruction: the opcode field, and of SPECIAL the function field behind all opcodes
+unfoldable pub keyOf : ℕ → ℕ
+keyOf w = cond (eqb (opcodeOf w) 0x00) (0x40 + functOf w) (opcodeOf w)
+
+-- the same of an instruction that touches no memory
+unfoldable pub Quiet : Effect → Ins → Type 0
+Quiet r i = (e : Change) → r ≡ Done e → (does (decode (i .word)) i ≡ Done e) × ((a : ℕ) → touching (decode (i .word)) a ≡ Nothing)
+
 -- a page's number and where its bytes stand, or no page's number
 pub data Shows (p : List ℕ) (u : ℕ) (w : Window) : Type 0 where
   nowhere : w .number ≡ 0xffffffffffffffff → Shows p u w
   standing : (i : ℕ) → lookup p u (w .number) ≡ Record i → w .at ≡ i * 4104 + 8 → Shows p u w
+
+abbrev pub Both : List ℕ → ℕ → Pair → Type 0
+Both p u d = Shows p u (d .near) × Shows p u (d .far)
+
+-- the address of the eight bytes that a load or store touches
+abbrev pub eightOf : Ins → ℕ
+eightOf i = addressOf (i .word) (i .rs) / 8 * 8
+
+-- they lie in the page, and the instruction has them
+pub record Sees (p : List ℕ) (u : ℕ) (w : Window) (i j : Ins) : Type 0 where
+  pub here : eightOf i / 4096 ≡ w .number
+  pub eight : j ≡ seeing i (big 8 (byteAt p u) (eightOf i))
+
+-- what an instruction does where its eight bytes are at hand
+abbrev pub onNear : Near → (Ins → Effect) → Effect
+onNear (Here j) f = f j
+onNear Away f = CallBy
+
+-- a quick answer of a load or store in the page
+unfoldable pub Reaches : List ℕ → ℕ → Window → Ins → Effect → Type 0
+Reaches p u w i r = (e : Change) → r ≡ Done e
+    → (does (decode (i .word)) (seeing i (big 8 (byteAt p u) (eightOf i))) ≡ Done e) × ((a : ℕ) → touching (decode (i .word)) a ≡ Eight a) × (eightOf i / 4096 ≡ w .number)
 
 -- whether the touched eight bytes lie in the page
 abbrev pub covered : Window → Touch → Bool
@@ -152,10 +191,10 @@ unfoldable pub cpuWith : Cpu → Core → ℕ → Cpu
 cpuWith c k n = record { pc = k .pc; next = k .next; hi = k .hi; lo = k .lo; heap = c .heap; step = later (c .step) n; offset = c .offset; hint = c .hint; exited = c .exited; code = c .code; rules = c .rules }
 
 -- a change carried out on registers r and pages p
-pub record Completed (r p : List ℕ) (u : ℕ) (w : Window) (t : Touch) (e : Change) (q : Turn) (r' p' : List ℕ) : Type 0 where
+pub record Completed (r p : List ℕ) (u : ℕ) (d : Pair) (t : Touch) (e : Change) (q : Turn) (r' p' : List ℕ) : Type 0 where
   pub made : q .made ≡ true
   pub core : q .core ≡ coreAfter e
-  pub window : q .data ≡ w
+  pub window : q .data ≡ d
   pub regs : r' ≡ setReg r (e .dest) (e .value)
   pub pages : stored (Used u) p' ≡ putting p u (storing t e)
   pub kept : (v : Window) → Shows p u v → Shows p' u v
@@ -163,7 +202,7 @@ pub record Completed (r p : List ℕ) (u : ℕ) (w : Window) (t : Touch) (e : Ch
 -- a step that was not made leaves everything, and one that was is the definition's
 pub data Turned (c : Cpu) (k : Core) (w u : ℕ) (r p : List ℕ) (q : Turn) (r' p' : List ℕ) : Type 0 where
   stays : q .made ≡ false → r' ≡ r → p' ≡ p → Turned c k w u r p q r' p'
-  makes : q .made ≡ true → Shows p' u (q .data) → ((v : Window) → Shows p u v → Shows p' u v)
+  makes : q .made ≡ true → Both p' u (q .data) → ((v : Window) → Shows p u v → Shows p' u v)
       → ((n : ℕ) (y h o x d : List ℕ) → left SteppedBy (machine (cpuWith c (q .core) (n + 1)) r' y u p' h o) true ≡ working x d (machine (counted (cpuWith c k n)) r y u p h o) (λ s. executing s w (touchOf (s .regs) w)))
       → Turned c k w u r p q r' p'
 

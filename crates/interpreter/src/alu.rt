@@ -41,7 +41,7 @@ pub(crate) fn shift_signed(x: u64, s: u64) -> u64
 }
 
 // SRAV: rules 0 gives 0 when rs mod 64 = 32.
-fn shift_signed_by(rules: u8, x: u64, y: u64) -> u64
+pub(crate) fn shift_signed_by(rules: u8, x: u64, y: u64) -> u64
     ensures { λ r. ⌜ r ≡ shiftSignedBy rules x y ⌝ }
 {
     if rules != 0 {

@@ -1,6 +1,6 @@
 // What an instruction reads, and what it does.
 ghost use mathlib.Core.Path.{_≡_};
-ghost use Rattle.interpreter.specs.Effects.{refusalNumber, changes, toRegister, toRd, toRt, storing, going};
+ghost use Rattle.interpreter.specs.Effects.{seeing, refusalNumber, changes, toRegister, toRd, toRt, storing, going};
 use crate::bits;
 use crate::isa::IType;
 use crate::isa::RType;
@@ -88,6 +88,15 @@ pub enum Touch {
 }
 
 impl Ins {
+    // The same instruction with these eight bytes.
+    pub(crate) fn seeing(self, mem: u64) -> Ins
+        ensures { λ r. ⌜ r ≡ seeing self mem ⌝ }
+    {
+        let mut i = self;
+        i.mem = mem;
+        i
+    }
+
     // Register d gets v, hi and lo become h and l, and the program goes on with the next instruction.
     pub(crate) fn changes(self, d: u64, v: u64, h: u64, l: u64) -> Effect
         ensures { λ r. ⌜ r ≡ changes self d v h l ⌝ }

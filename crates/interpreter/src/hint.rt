@@ -73,7 +73,27 @@ fn judge(text: &[u8], room: usize) -> Heard
     Heard::Refuse(Refusal::HintText)
 }
 
-// The same of the held bytes with the appended ones behind them: nothing is changed yet.
+// The same of the held bytes with the appended ones behind them, put together in a text that has room: no buffer is changed yet.
+fn judge_in(
+    text: &mut [u8],
+    pages: &[u8],
+    used: usize,
+    hint: &[u8],
+    held: usize,
+    address: u64,
+    count: usize,
+    room: usize,
+) -> Heard
+    requires { ⌜ (held + count ≤ length (now text)) × (held ≤ length (now hint)) ⌝ }
+    ensures { λ r. ⌜ r ≡ heard (joined (byteAt (now (pages .entry)) used) (now (hint .entry)) held address count) (λ n. leb n room) ⌝ }
+{
+    bytes::copy(hint, 0, text, 0, held);
+    reader::copy_out(pages, used, address, text, held, count);
+    let end = held + count;
+    judge(&text[..end], room)
+}
+
+// Most hints are short, and a long text costs time to clear.
 fn decide(
     pages: &[u8],
     used: usize,
@@ -86,11 +106,12 @@ fn decide(
     requires { ⌜ (held + count ≤ 65536) × (held ≤ length (now hint)) ⌝ }
     ensures { λ r. ⌜ r ≡ heard (joined (byteAt (now (pages .entry)) used) (now (hint .entry)) held address count) (λ n. leb n room) ⌝ }
 {
-    let mut text = [0u8; 65536];
-    bytes::copy(hint, 0, &mut text, 0, held);
-    reader::copy_out(pages, used, address, &mut text, held, count);
-    let end = held + count;
-    judge(&text[..end], room)
+    if held + count <= 256 {
+        let mut short = [0u8; 256];
+        return judge_in(&mut short, pages, used, hint, held, address, count, room);
+    }
+    let mut long = [0u8; 65536];
+    judge_in(&mut long, pages, used, hint, held, address, count, room)
 }
 
 // The bytes are appended, and a hint that is handed out is copied to the front of the output.

@@ -21,8 +21,10 @@ mod stores;
 mod branches;
 
 // The kernel (cpu.rs): an instruction as a pure function; and the frequent instructions of it, for runs.
+mod access;
 pub mod cpu;
 mod frequent;
+mod key;
 
 // What the machine holds, and a state's bytes.
 pub mod layout;

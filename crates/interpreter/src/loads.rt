@@ -28,11 +28,7 @@ pub(crate) fn word_at(m: u64, o: u64) -> u64
     requires { ⌜ o < 8 ⌝ }
     ensures { λ r. ⌜ (r ≡ wordAt m o) × (r < 2 ^ 32) ⌝ }
 {
-    if o < 4 {
-        m / 0x1_0000_0000
-    } else {
-        m % 0x1_0000_0000
-    }
+    (m >> (32 - 32 * (o / 4))) % 0x1_0000_0000
 }
 
 // Rules 0 always uses bytes 4 to 7.

@@ -10,17 +10,20 @@ ghost use Rattle.pages.specs.declared.memory.Stored.the-variants.{Used};
 ghost use Rattle.interpreter.specs.Machine.{machine, bad};
 ghost use Rattle.interpreter.specs.Plan.{eightAt, storing, touchOf};
 ghost use Rattle.interpreter.specs.Step.{putting};
-ghost use Rattle.interpreter.specs.Parts.{Shows, covered, coreOf, cpuWith, Completed, Turned, Fetches, Gone};
+ghost use Rattle.interpreter.specs.Parts.{Shows, Both, covered, coreOf, cpuWith, Completed, Turned, Fetches, Gone};
 ghost use Rattle.interpreter.specs.declared.window.Window.{Window};
-ghost use Rattle.interpreter.specs.declared.effect.Touch.the-variants.{Eight};
+ghost use Rattle.interpreter.specs.declared.effect.Touch.the-variants.{Nothing, Eight};
 use crate::bits;
 use crate::cpu;
 use crate::effect::Change;
 use crate::effect::Effect;
 use crate::effect::Touch;
 use crate::frequent;
+use crate::isa::Opcode;
+use crate::key::Key;
 use crate::state::Cpu;
 use crate::step;
+use crate::window::Pair;
 use crate::window::Window;
 
 // The numbers that instructions change. The others stay, and a loop need not carry them.
@@ -31,11 +34,11 @@ pub(crate) struct Core {
     pub lo: u64,
 }
 
-// A step that was made, or was not and left everything as it was; and the page of the loads and stores.
+// A step that was made, or was not and left everything as it was; and the pages of the loads and stores.
 pub(crate) struct Turn {
     pub made: bool,
     pub core: Core,
-    pub data: Window,
+    pub data: Pair,
 }
 
 // The word at pc, where pc is aligned and its page is there, and that page.
@@ -75,14 +78,14 @@ impl Cpu {
     }
 }
 
-// The page of the touched eight bytes.
-fn window_of(w: Window, pages: &[u8], used: usize, t: Touch) -> Window
-    requires { ⌜ Shows (now pages) used w ⌝ }
-    ensures { λ r. ⌜ Shows (now (pages .entry)) used r ⌝ }
+// The page of the touched eight bytes comes first.
+fn window_of(d: Pair, pages: &[u8], used: usize, t: Touch) -> Pair
+    requires { ⌜ Both (now pages) used d ⌝ }
+    ensures { λ r. ⌜ Both (now (pages .entry)) used r ⌝ }
 {
     match t {
-        Touch::Nothing => w,
-        Touch::Eight(a) => w.to(pages, used, a),
+        Touch::Nothing => d,
+        Touch::Eight(a) => d.to(pages, used, a),
     }
 }
 
@@ -119,19 +122,11 @@ fn settle(w: Window, pages: &mut [u8], used: usize, t: Touch, e: Change)
     }
 }
 
-// The step once it is known what changes.
-fn complete(
-    regs: &mut [u64; 32],
-    pages: &mut [u8],
-    used: usize,
-    w: Window,
-    t: Touch,
-    e: Change,
-) -> Turn
-    requires { ⌜ Shows (now pages) used w × (covered w t ≡ true) × ((a : ℕ) → t ≡ Eight a → a % 8 ≡ 0) × (e .dest < 32) ⌝ }
-    ensures { λ r. ⌜ Completed (now (regs .entry)) (now (pages .entry)) used w t e r (now (regs .exit)) (now (pages .exit)) ⌝ }
+// The step once it is known what changes and that nothing is stored.
+fn finish(regs: &mut [u64; 32], d: Pair, e: Change) -> Turn
+    requires { ⌜ e .dest < 32 ⌝ }
+    ensures { λ r. ⌜ ((p : List ℕ) (u : ℕ) → Completed (now (regs .entry)) p u d Nothing e r (now (regs .exit)) p) ⌝ }
 {
-    settle(w, pages, used, t, e);
     step::set_reg(regs, e.dest, e.value);
     Turn {
         made: true,
@@ -141,8 +136,25 @@ fn complete(
             hi: e.hi,
             lo: e.lo,
         },
-        data: w,
+        data: d,
     }
+}
+
+// The same where the first page has the touched eight bytes.
+fn complete(
+    regs: &mut [u64; 32],
+    pages: &mut [u8],
+    used: usize,
+    d: Pair,
+    t: Touch,
+    e: Change,
+) -> Turn
+    requires { ⌜ Both (now pages) used d × (covered (d .near) t ≡ true) × ((a : ℕ) → t ≡ Eight a → a % 8 ≡ 0) × (e .dest < 32) ⌝ }
+    ensures { λ r. ⌜ Completed (now (regs .entry)) (now (pages .entry)) used d t e r (now (regs .exit)) (now (pages .exit)) ⌝ }
+{
+    let w = d.near;
+    settle(w, pages, used, t, e);
+    finish(regs, d, e)
 }
 
 // An instruction that is not among the frequent ones.
@@ -153,11 +165,11 @@ fn rarely(
     regs: &mut [u64; 32],
     pages: &mut [u8],
     used: usize,
-    w: Window,
+    d: Pair,
     t: Touch,
     mem: u64,
 ) -> Turn
-    requires { ⌜ Shows (now pages) used w × (covered w t ≡ true) × (t ≡ touchOf (now regs) word) × (mem ≡ eightAt (byteAt (now pages) used) t) ⌝ }
+    requires { ⌜ Both (now pages) used d × (covered (d .near) t ≡ true) × (t ≡ touchOf (now regs) word) × (mem ≡ eightAt (byteAt (now pages) used) t) ⌝ }
     ensures { λ r. ⌜ Turned c k word used (now (regs .entry)) (now (pages .entry)) r (now (regs .exit)) (now (pages .exit)) ⌝ }
 {
     let effect = cpu::kernel(step::ins_of(c.with_core(k), regs, word, mem));
@@ -165,10 +177,42 @@ fn rarely(
         return Turn {
             made: false,
             core: k,
-            data: w,
+            data: d,
         };
     };
-    complete(regs, pages, used, w, t, e)
+    complete(regs, pages, used, d, t, e)
+}
+
+// A load or store in another page than the last one, and what is rare.
+fn slowly(
+    c: Cpu,
+    k: Core,
+    word: u64,
+    regs: &mut [u64; 32],
+    pages: &mut [u8],
+    used: usize,
+    data: Pair,
+) -> Turn
+    requires { ⌜ Both (now pages) used «data» × (k .pc % 4 ≡ 0) ⌝ }
+    ensures { λ r. ⌜ Turned c k word used (now (regs .entry)) (now (pages .entry)) r (now (regs .exit)) (now (pages .exit)) ⌝ }
+{
+    let t = step::touch_of(regs, word);
+    let d = window_of(data, pages, used, t);
+    let w = d.near;
+    if !covers(w, t) {
+        return Turn {
+            made: false,
+            core: k,
+            data: d,
+        };
+    }
+    let mem = touched(w, pages, used, t);
+    let i = step::ins_of(c.with_core(k), regs, word, mem);
+    let effect = frequent::elsewhere(i, Opcode::decode(word));
+    let Effect::Done(e) = effect else {
+        return rarely(c, k, word, regs, pages, used, d, t, mem);
+    };
+    complete(regs, pages, used, d, t, e)
 }
 
 // One step of the instruction at an aligned pc.
@@ -179,26 +223,24 @@ fn once(
     regs: &mut [u64; 32],
     pages: &mut [u8],
     used: usize,
-    data: Window,
+    data: Pair,
 ) -> Turn
-    requires { ⌜ Shows (now pages) used «data» × (k .pc % 4 ≡ 0) ⌝ }
+    requires { ⌜ Both (now pages) used «data» × (k .pc % 4 ≡ 0) ⌝ }
     ensures { λ r. ⌜ Turned c k word used (now (regs .entry)) (now (pages .entry)) r (now (regs .exit)) (now (pages .exit)) ⌝ }
 {
-    let t = step::touch_of(regs, word);
-    let w = window_of(data, pages, used, t);
-    if !covers(w, t) {
-        return Turn {
-            made: false,
-            core: k,
-            data: w,
-        };
+    let i = step::ins_of(c.with_core(k), regs, word, 0);
+    let key = Key::of(word);
+    let plain = frequent::plain(i, key);
+    if let Effect::Done(e) = plain {
+        return finish(regs, data, e);
     }
-    let mem = touched(w, pages, used, t);
-    let effect = frequent::frequent(step::ins_of(c.with_core(k), regs, word, mem));
-    let Effect::Done(e) = effect else {
-        return rarely(c, k, word, regs, pages, used, w, t, mem);
-    };
-    complete(regs, pages, used, w, t, e)
+    let w = data.near;
+    let kept = frequent::kept(i, w, pages, used, key);
+    if let Effect::Done(e) = kept {
+        let t = Touch::Eight(i.address() / 8 * 8);
+        return complete(regs, pages, used, data, t, e);
+    }
+    slowly(c, k, word, regs, pages, used, data)
 }
 
 // The step counter is one more with each step, so it is reckoned at the end.
@@ -249,22 +291,29 @@ pub(crate) fn go(c: Cpu, regs: &mut [u64; 32], pages: &mut [u8], used: usize, bu
     if c.exited {
         return Went { cpu: c, count: 0 };
     }
+    let first = fetch(Window::none(), pages, used, c.pc);
+    if !first.found {
+        return Went { cpu: c, count: 0 };
+    }
     let mut core = c.core();
-    let mut data = Window::none();
-    let mut fetched = fetch(Window::none(), pages, used, core.pc);
+    let mut data = Pair::none();
+    let mut code = first.code;
+    let mut word = first.word;
     let mut count = 0;
     while count < budget {
-        if !fetched.found {
-            return after(c, core, count);
-        }
-        let q = once(c, core, fetched.word, regs, pages, used, data);
+        let q = once(c, core, word, regs, pages, used, data);
         if !q.made {
             return after(c, core, count);
         }
         core = q.core;
         data = q.data;
-        fetched = fetch(fetched.code, pages, used, core.pc);
         count += 1;
+        let f = fetch(code, pages, used, core.pc);
+        if !f.found {
+            return after(c, core, count);
+        }
+        code = f.code;
+        word = f.word;
     }
     after(c, core, count)
 }

@@ -38,11 +38,9 @@ pub(crate) fn sw(m: u64, o: u64, t: u64) -> u64
     requires { ⌜ o < 8 ⌝ }
     ensures { λ r. ⌜ r ≡ sw m o t ⌝ }
 {
-    if o < 4 {
-        t % 0x1_0000_0000 * 0x1_0000_0000 + m % 0x1_0000_0000
-    } else {
-        m / 0x1_0000_0000 * 0x1_0000_0000 + t % 0x1_0000_0000
-    }
+    let at = 32 - 32 * (o / 4);
+    let old = (m >> at) % 0x1_0000_0000;
+    m - (old << at) + ((t % 0x1_0000_0000) << at)
 }
 
 // Off alignment, which rules 0 lets pass, rt is shifted up by the offset.
@@ -50,6 +48,9 @@ pub(crate) fn sd(rules: u8, m: u64, o: u64, t: u64) -> u64
     requires { ⌜ o < 8 ⌝ }
     ensures { λ r. ⌜ r ≡ sd rules m o t ⌝ }
 {
+    if o == 0 {
+        return t;
+    }
     if rules == 0 {
         let up = 8 * o;
         return (t << up) + m % (1u64 << up);

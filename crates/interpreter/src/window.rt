@@ -7,7 +7,7 @@ ghost use Rattle.pages.specs.Bytes.{big};
 ghost use Rattle.pages.specs.Pages.{byteAt};
 ghost use Rattle.pages.specs.Calls.{stored, setDef};
 ghost use Rattle.pages.specs.declared.memory.Stored.the-variants.{Used};
-ghost use Rattle.interpreter.specs.Parts.{Shows};
+ghost use Rattle.interpreter.specs.Parts.{Shows, Both};
 ghost use Rattle.interpreter.specs.declared.window.Window.{Window};
 use pages::bytes;
 use pages::page;
@@ -88,5 +88,38 @@ impl Window {
         let at = self.at + (address % Page::ADDRESSES) as usize;
         let end = at + 8;
         bytes::put_doubleword(&mut pages[at..end], 0, value);
+    }
+}
+
+// The pages of the last two loads and stores that were not in the same, the last one first.
+pub(crate) struct Pair {
+    pub near: Window,
+    pub far: Window,
+}
+
+impl Pair {
+    pub(crate) fn none() -> Pair
+        ensures { λ r. ⌜ ((p : List ℕ) (u : ℕ) → Both p u r) ⌝ }
+    {
+        Pair {
+            near: Window::none(),
+            far: Window::none(),
+        }
+    }
+
+    // The page that an address lies in, where there is one, comes first.
+    pub(crate) fn to(self, pages: &[u8], used: usize, address: u64) -> Pair
+        requires { ⌜ Both (now pages) used self ⌝ }
+        ensures { λ r. ⌜ Both (now (pages .entry)) used r ⌝ }
+    {
+        let near = self.near;
+        if near.has(address) {
+            return self;
+        }
+        let far = self.far;
+        Pair {
+            near: far.to(pages, used, address),
+            far: near,
+        }
     }
 }

@@ -1,6 +1,7 @@
 // A vector's whole machine: laid out, stepped, and every byte of it held against what the judge saw.
 ghost use Prim.Native.Nat.{_≤_};
 use crate::bytes;
+use crate::second;
 use crate::vector;
 use crate::vector::Front;
 use interpreter::layout;
@@ -86,7 +87,69 @@ fn within(n: usize, size: usize) -> usize
     n
 }
 
-// The step, or a run of one: a run has a quicker way for many instructions.
+// How a vector is replayed: by `step`, by a run of one, which has a quicker way for many instructions, and as the second step of
+// a run.
+pub enum Way {
+    Step,
+    Run,
+    Second,
+}
+
+// What a vector's step left, and whether it was the second of a run.
+struct Made {
+    end: Finished,
+    second: bool,
+}
+
+// Whether a vector went as the judge says, and as the second step of a run too.
+pub enum Replayed {
+    Differs,
+    Agrees,
+    Twice,
+}
+
+fn run_of(
+    s: State,
+    pages: &mut [u8],
+    used: usize,
+    hint: &mut [u8],
+    output: &mut [u8],
+    index: &[u8],
+    data: &[u8],
+    budget: u64,
+) -> Finished {
+    let e = run::run(s, pages, used, hint, output, index, data, budget);
+    let answer = e.answer;
+    let state = e.state;
+    Finished {
+        answer,
+        state,
+        used: e.used,
+        counts: e.count == budget,
+    }
+}
+
+// Where a step cannot be the second of a run, it is made by itself.
+fn second_of(
+    s: State,
+    pages: &mut [u8],
+    used: usize,
+    hint: &mut [u8],
+    output: &mut [u8],
+    index: &[u8],
+    data: &[u8],
+) -> Made {
+    let b = second::lay(s, pages, used);
+    if b.at == 0 {
+        let end = step::step(s, pages, used, hint, output, index, data);
+        return Made { end, second: false };
+    }
+    let t = second::state(s);
+    let end = run_of(t, pages, used, hint, output, index, data, 2);
+    second::restore(b, pages);
+    Made { end, second: true }
+}
+
 fn make(
     s: State,
     pages: &mut [u8],
@@ -95,20 +158,17 @@ fn make(
     output: &mut [u8],
     index: &[u8],
     data: &[u8],
-    by_run: bool,
-) -> Finished {
-    if by_run {
-        let e = run::run(s, pages, used, hint, output, index, data, 1);
-        let answer = e.answer;
-        let state = e.state;
-        return Finished {
-            answer,
-            state,
-            used: e.used,
-            counts: e.count == 1,
-        };
+    way: Way,
+) -> Made {
+    if let Way::Second = way {
+        return second_of(s, pages, used, hint, output, index, data);
     }
-    step::step(s, pages, used, hint, output, index, data)
+    if let Way::Run = way {
+        let end = run_of(s, pages, used, hint, output, index, data, 1);
+        return Made { end, second: false };
+    }
+    let end = step::step(s, pages, used, hint, output, index, data);
+    Made { end, second: false }
 }
 
 // The same on as many bytes of each buffer as the vector lends.
@@ -120,8 +180,8 @@ fn stepped(
     output: &mut [u8],
     index: &[u8],
     data: &[u8],
-    by_run: bool,
-) -> Finished {
+    way: Way,
+) -> Made {
     let p = within(f.pages, pages.len());
     let h = within(f.hint, hint.len());
     let o = within(f.output, output.len());
@@ -135,7 +195,7 @@ fn stepped(
         &mut output[..o],
         &index[..i],
         &data[..d],
-        by_run,
+        way,
     )
 }
 
@@ -182,8 +242,8 @@ fn same_lent(pages: &[u8], hint: &[u8], output: &[u8], p: &[u8], h: &[u8], o: &[
     false
 }
 
-// One vector: whether the step, or a run of one, does what the judge saw.
-fn laid(v: &[u8], f: Front, by_run: bool) -> bool {
+// One vector, replayed in one way.
+fn laid(v: &[u8], f: Front, way: Way) -> Replayed {
     let fill = f.fill;
     let mut state = [0u8; 360];
     let mut pages = [fill; 20519];
@@ -206,29 +266,40 @@ fn laid(v: &[u8], f: Front, by_run: bool) -> bool {
     let mut o = output;
     lay_after(v, at, &mut state, &mut p, &mut h, &mut o);
     let s = start.state;
-    let got = stepped(
-        s,
-        f,
-        &mut pages,
-        &mut hint,
-        &mut output,
-        &index,
-        &data,
-        by_run,
-    );
+    let made = stepped(s, f, &mut pages, &mut hint, &mut output, &index, &data, way);
+    let end = made.end;
     if same_lent(&pages, &hint, &output, &p, &h, &o) {
         if start.formed {
-            return same_finish(got, f, &state);
+            if same_finish(end, f, &state) {
+                if made.second {
+                    return Replayed::Twice;
+                }
+                return Replayed::Agrees;
+            }
         }
     }
-    false
+    Replayed::Differs
 }
 
-pub fn replay(v: &[u8], f: Front) -> bool {
-    if fits(f) {
-        if laid(v, f, false) {
-            return laid(v, f, true);
+// Refusal 1 leaves the step before it too, so that it is no second step.
+fn seconded(v: &[u8], f: Front) -> Replayed {
+    if f.kind == Front::REFUSED {
+        if f.first == 1 {
+            return Replayed::Agrees;
         }
     }
-    false
+    laid(v, f, Way::Second)
+}
+
+pub fn replay(v: &[u8], f: Front) -> Replayed {
+    if !fits(f) {
+        return Replayed::Differs;
+    }
+    if let Replayed::Differs = laid(v, f, Way::Step) {
+        return Replayed::Differs;
+    }
+    if let Replayed::Differs = laid(v, f, Way::Run) {
+        return Replayed::Differs;
+    }
+    seconded(v, f)
 }

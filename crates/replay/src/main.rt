@@ -1,9 +1,11 @@
-// Replays the fixed lists of whole steps that the unchanged Rust (rules 0) and QEMU (rules 1) made, each by `step` and by a
-// `run` of one, and says of each list how many steps differ. compare/README.md says how the lists are made and what their form is.
+// Replays the fixed lists of whole steps that the unchanged Rust (rules 0) and QEMU (rules 1) made, each by `step`, by a
+// `run` of one and as the second step of a run, and says of each list how many steps differ. compare/README.md says how the lists are made and what their form is.
 mod bytes;
 mod machine;
+mod second;
 mod vector;
 
+use crate::machine::Replayed;
 use crate::vector::Front;
 use libc::STDOUT_FILENO;
 
@@ -18,13 +20,15 @@ fn line(name: &[u8], n: u64, what: &[u8]) {
     text(what);
 }
 
-// How a list went: the steps that are as the judge says, by the kind of their answer, and the others.
+// How a list went: the steps that are as the judge says, by the kind of their answer, those of them that were the second step
+// of a run too, and the steps that differ.
 struct Tally {
     stepped: u64,
     wrote: u64,
     hint: u64,
     exited: u64,
     refused: u64,
+    twice: u64,
     wrong: u64,
 }
 
@@ -60,6 +64,12 @@ impl Tally {
         t
     }
 
+    fn twice(self) -> Tally {
+        let mut t = self;
+        t.twice = more(t.twice);
+        t
+    }
+
     fn wrong(self, name: &[u8], ordinal: u64) -> Tally {
         let mut t = self;
         line(name, ordinal, b" differs\n");
@@ -80,6 +90,7 @@ impl Tally {
         part(self.hint, b", Exited ");
         part(self.exited, b", Refused ");
         part(self.refused, b"), ");
+        part(self.twice, b" also as a run's second, ");
         part(self.wrong, b" differ\n");
     }
 }
@@ -113,10 +124,11 @@ fn turn(fd: i32, name: &[u8], v: &mut [u8], t: Tally) -> Tally {
         text(b"the list is cut short\n");
         return t.wrong(name, front.ordinal);
     }
-    if machine::replay(v, front) {
-        return t.right(front.kind);
+    match machine::replay(v, front) {
+        Replayed::Differs => t.wrong(name, front.ordinal),
+        Replayed::Agrees => t.right(front.kind),
+        Replayed::Twice => t.right(front.kind).twice(),
     }
-    t.wrong(name, front.ordinal)
 }
 
 fn replay(fd: i32, name: &[u8], v: &mut [u8]) {
@@ -129,6 +141,7 @@ fn replay(fd: i32, name: &[u8], v: &mut [u8]) {
         hint: 0,
         exited: 0,
         refused: 0,
+        twice: 0,
         wrong: 0,
     };
     for _ in 0..count {

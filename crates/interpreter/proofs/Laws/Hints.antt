@@ -153,17 +153,17 @@ module _ (m : Memory) (h : List ℕ) (held address count : ℕ) where
           cell-row _ 4 n i k ∙ joined-cell r (4 + i) (omega (arith, length-joined)) ∙ sym (getD-drop 4 t i 0)
 
   -- copied one behind the other into a scratch text z
-  pub joined-copied : (z a b : List ℕ) → length z ≡ 65536 → held + count ≤ 65536 → held ≤ length h
+  pub joined-copied : (z a b : List ℕ) → held + count ≤ length z → held ≤ length h
       → a ≡ copyDef h 0 z 0 held → b ≡ putDef a held (span m address count) → take (held + count) b ≡ joined m h held address count
   unfolding joined
-  joined-copied z a b lz r l p q =
+  joined-copied z a b r l p q =
       let X = row (cell h) 0 held in
       let Y = span m address count in
       let lx : length X ≡ held = length-row (cell h) 0 held in
       let o : 0 + held ≤ length h = omega arith in
       let u : 0 + held ≤ length z = omega arith in
       let p2 : a ≡ sets z 0 X = p ∙ copy-fits h 0 z 0 held o u in
-      let la : length a ≡ 65536 = ap length p2 ∙ length-sets z 0 X ∙ lz in
+      let la : length a ≡ length z = ap length p2 ∙ length-sets z 0 X in
       let v : held + count ≤ length a = omega arith in
       let w : 0 + length X ≤ length z = omega arith in
       let y : held + length Y ≤ length a = rw length-span v in

@@ -42,7 +42,7 @@ nothing f (some y) rest a h r = h y
 nothing f none rest a h r = r
 
 module _ (a : ℕ) where
-  special-nothing : (f : ℕ) → touching (special f) a ≡ Nothing
+  pub special-nothing : (f : ℕ) → touching (special f) a ≡ Nothing
   unfolding special registers touching
   special-nothing f =
       nothing jump _ _ a (λ y. refl) (nothing other _ _ a (λ y. refl) (nothing hilo _ _ a (λ y. refl)

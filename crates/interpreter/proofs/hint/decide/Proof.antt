@@ -1,41 +1,24 @@
 use Prim.Native.Nat.{ℕ}
-use mathlib.Core.Path.{_∙_, ap, sym}
-use mathlib.Core.List.{List}
-use lib.Dec.{leb}
+use native.Mathlib.Omega.{arith}
 use lib.ListN.{length, replicate, length-replicate}
-use Rattle.pages.specs.Pages.{byteAt}
-use Rattle.interpreter.specs.Hints.{heard}
-use Rattle.interpreter.proofs.Laws.Hints.{length-joined, joined-copied}
 use borrow.Author.Needs.{needs}
 use Rattle.interpreter.proofs.hint.decide.Statement.{statement}
 use Rattle.interpreter.proofs.hint.decide.Tie as tie
 
-slice-aggregate-judge : tie.Need-slice-aggregate-judge
-slice-aggregate-judge c =
-    let e = c .before .before in
-    let s = e .before .before .before .before .before .before .before in
-    let a = s .args in
-    let m = byteAt (a .pages .now) (a .used) in
-    sym (ap length (joined-copied m (a .hint .now) (a .held) (a .address) (a .count) (replicate 65536 0) _ _ (length-replicate {A = ℕ} 65536 0) (s .pre .0) (s .pre .1) (e .before .before .before .copy .ensures) (e .copy-out .ensures)) ∙ length-joined m (a .hint .now) (a .held) (a .address) (a .count))
+add-if1 : tie.Need-add-if1
+add-if1 c = omega (arith, c .before .before .pre .0)
+
+judge-in-requires : tie.Need-judge-in-requires
+judge-in-requires c κs = (rw (length-replicate {A = ℕ} 256 0) (c .before .if1 .taken), c .before .before .before .before .pre .1)
 
 returns : tie.Need-returns
-returns c =
-    let e = c .before .before .before in
-    let s = e .before .before .before .before .before .before .before in
-    let a = s .args in
-    let m = byteAt (a .pages .now) (a .used) in
-    c .judge .ensures ∙ ap (λ (t : List ℕ). heard t (λ (n : ℕ). leb n (a .room))) (joined-copied m (a .hint .now) (a .held) (a .address) (a .count) (replicate 65536 0) _ _ (length-replicate {A = ℕ} 65536 0) (s .pre .0) (s .pre .1) (e .before .before .before .copy .ensures) (e .copy-out .ensures))
+returns c = c .before .judge-in .ensures
+
+judge-in-requires-2 : tie.Need-judge-in-requires-2
+judge-in-requires-2 c κs = (rw (length-replicate {A = ℕ} 65536 0) (c .before .before .before .before .pre .0), c .before .before .before .before .pre .1)
+
+returns-2 : tie.Need-returns-2
+returns-2 c = c .before .judge-in2 .ensures
 
 pub decide-spec : {M : Type 1} → statement M
-decide-spec =
-    tie.close
-    (tie.spec
-    (λ c. search needs)
-    (λ c κs. search needs)
-    (λ c. search needs)
-    (λ c κs. search needs)
-    (λ c. search needs)
-    (λ c. search needs)
-    slice-aggregate-judge
-    (λ c κs. search needs)
-    returns)
+decide-spec = tie.close (tie.spec add-if1 (λ c. search needs) judge-in-requires returns (λ c. search needs) judge-in-requires-2 returns-2)

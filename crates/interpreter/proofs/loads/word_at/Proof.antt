@@ -1,17 +1,16 @@
-use Prim.Native.Nat.{_*_, _/_}
+use mathlib.Core.Path.{sym}
+use Prim.Native.Nat.{_-_, _*_, _/_}
 use native.Mathlib.Omega.{arith}
 use Rattle.interpreter.specs.Loads.{wordAt}
+use Rattle.interpreter.proofs.Laws.Shifts.{shift}
 use Rattle.interpreter.proofs.Laws.Bytes.{big-part}
+use borrow.Author.Needs.{needs}
 use Rattle.interpreter.proofs.loads.word_at.Statement.{statement}
 use Rattle.interpreter.proofs.loads.word_at.Tie as tie
 
 returns : tie.Need-returns
 unfolding wordAt
-returns c = omega (arith, big-part 8 (c .before .args .o / 4 * 4) 4 4 (c .before .args .m) (omega arith))
-
-returns-2 : tie.Need-returns-2
-unfolding wordAt
-returns-2 c = omega (arith, big-part 8 (c .before .args .o / 4 * 4) 4 0 (c .before .args .m) (omega arith))
+returns c = let o = c .args .o in (rw (shift (32 - 32 * (o / 4)) (4 - o / 4 * 4) (omega arith)) (sym (big-part 8 (o / 4 * 4) 4 (4 - o / 4 * 4) _ (omega arith))), search needs)
 
 pub word-at-spec : {M : Type 1} → statement M
-word-at-spec = tie.close (tie.spec returns returns-2)
+word-at-spec = tie.close (tie.spec (λ c. search needs) (λ c. search needs) (λ c. search needs) returns)

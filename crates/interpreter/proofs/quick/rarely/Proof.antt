@@ -18,14 +18,4 @@ returns-2 : tie.Need-returns-2
 returns-2 c = turned _ _ _ _ _ _ (c .before .before .before .before .before .before .before .before .before .before .before .before .before .pre .2) (c .before .before .before .before .before .before .before .before .before .before .before .before .before .pre .3) (kernel-is _ _ _ _ _ (c .before .before .before .before .before .before .before .before .before .before .before .with-core .ensures) (c .before .before .before .before .before .before .before .before .before .ins-of .ensures) (c .before .before .before .before .before .before .before .before .kernel .ensures) (c .before .before .before .before .before .before .effect .given .1)) (c .before .before .before .before .before .before .before .before .before .before .before .before .before .pre .0) (c .before .before .complete .ensures)
 
 pub rarely-spec : {M : Type 1} → statement M
-rarely-spec =
-    tie.close
-    (tie.spec
-    (λ c κs. search needs)
-    (λ c κs. search needs)
-    (λ c κs. search needs)
-    (λ c. search needs)
-    returns
-    complete-requires
-    (λ c. search needs)
-    returns-2)
+rarely-spec = tie.close (tie.spec (λ c κs. search needs) (λ c κs. search needs) (λ c κs. search needs) (λ c. search needs) returns complete-requires (λ c. search needs) returns-2)

@@ -2,8 +2,8 @@ use mathlib.Core.Path.{sym, ap, _∙_}
 use Rattle.interpreter.specs.Effects.{storing}
 use Rattle.interpreter.specs.Kernel.{after}
 use borrow.Author.Needs.{needs}
-use Rattle.interpreter.proofs.frequent.keeping.Statement.{statement}
-use Rattle.interpreter.proofs.frequent.keeping.Tie as tie
+use Rattle.interpreter.proofs.access.keeping.Statement.{statement}
+use Rattle.interpreter.proofs.access.keeping.Tie as tie
 
 returns : tie.Need-returns
 returns c = c .storing .ensures ∙ ap (after (storing _ 0 0)) (sym (c .before .before .kept .given .1) ∙ c .before .before .before .before .aligned .ensures)

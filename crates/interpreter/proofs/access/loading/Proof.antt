@@ -2,8 +2,8 @@ use mathlib.Core.Path.{sym, ap, _∙_}
 use Rattle.interpreter.specs.Effects.{toRt}
 use Rattle.interpreter.specs.Kernel.{after}
 use borrow.Author.Needs.{needs}
-use Rattle.interpreter.proofs.frequent.loading.Statement.{statement}
-use Rattle.interpreter.proofs.frequent.loading.Tie as tie
+use Rattle.interpreter.proofs.access.loading.Statement.{statement}
+use Rattle.interpreter.proofs.access.loading.Tie as tie
 
 returns : tie.Need-returns
 returns c = c .to-rt .ensures ∙ ap (after (toRt _)) (sym (c .before .before .loaded .given .1) ∙ c .before .before .before .before .aligned .ensures)

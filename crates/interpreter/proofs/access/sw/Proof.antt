@@ -1,0 +1,12 @@
+use Rattle.interpreter.specs.Stores.{stored}
+use Rattle.interpreter.specs.Kernel.{does}
+use borrow.Author.Needs.{needs}
+use Rattle.interpreter.proofs.access.sw.Statement.{statement}
+use Rattle.interpreter.proofs.access.sw.Tie as tie
+
+returns-2 : tie.Need-returns-2
+unfolding does stored
+returns-2 c = simp (c .before .before .before .before .n .given .1, c .keeping .ensures, c .before .sw .ensures, c .before .before .offset .ensures)
+
+pub sw-spec : {M : Type 1} → statement M
+sw-spec = tie.close (tie.spec (λ c. search needs) (λ c. search needs) (λ c. search needs) (λ c κs. search needs) (λ c κs. search needs) (λ c κs. search needs) returns-2)
