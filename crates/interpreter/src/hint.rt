@@ -28,6 +28,9 @@ impl Heard {
 
     // A hint's length stands before it.
     pub const LENGTH: usize = 4;
+
+    // The most bytes of a short text.
+    const SHORT: usize = 256;
 }
 
 // Hint room: the buffer's length, at most 65,536.
@@ -93,27 +96,6 @@ fn judge_in(
     judge(&text[..end], room)
 }
 
-// Most hints are short, and a long text costs time to clear.
-fn decide(
-    pages: &[u8],
-    used: usize,
-    hint: &[u8],
-    held: usize,
-    address: u64,
-    count: usize,
-    room: usize,
-) -> Heard
-    requires { ⌜ (held + count ≤ 65536) × (held ≤ length (now hint)) ⌝ }
-    ensures { λ r. ⌜ r ≡ heard (joined (byteAt (now (pages .entry)) used) (now (hint .entry)) held address count) (λ n. leb n room) ⌝ }
-{
-    if held + count <= 256 {
-        let mut short = [0u8; 256];
-        return judge_in(&mut short, pages, used, hint, held, address, count, room);
-    }
-    let mut long = [0u8; 65536];
-    judge_in(&mut long, pages, used, hint, held, address, count, room)
-}
-
 // The bytes are appended, and a hint that is handed out is copied to the front of the output.
 fn lay(
     pages: &[u8],
@@ -142,7 +124,47 @@ fn lay(
     }
 }
 
-// A write of count bytes from the address on to the hint descriptor. A refusal changes no byte.
+// A write that makes a long text.
+fn listen_long(
+    pages: &[u8],
+    used: usize,
+    hint: &mut [u8],
+    held: usize,
+    address: u64,
+    count: usize,
+    output: &mut [u8],
+) -> Heard
+    requires { ⌜ (held + count ≤ 65536) × (held + count ≤ length (now hint)) ⌝ }
+    ensures { λ s. ⌜ listened s (now (hint .exit)) (now (output .exit)) ≡ listenedTo (now (hint .entry)) (sets (now (hint .entry)) held (span (byteAt (now (pages .entry)) used) address count)) (joined (byteAt (now (pages .entry)) used) (now (hint .entry)) held address count) (now (output .entry)) (heard (joined (byteAt (now (pages .entry)) used) (now (hint .entry)) held address count) (λ n. leb n (length (now (output .entry))))) ⌝ }
+{
+    let mut text = [0u8; 65536];
+    let room = output.len();
+    let r = judge_in(&mut text, pages, used, hint, held, address, count, room);
+    lay(pages, used, hint, held, address, count, output, r)
+}
+
+// The same of a short one, as most are.
+fn listen_short(
+    pages: &[u8],
+    used: usize,
+    hint: &mut [u8],
+    held: usize,
+    address: u64,
+    count: usize,
+    output: &mut [u8],
+) -> Heard
+    requires { ⌜ (held + count ≤ 256) × (held + count ≤ length (now hint)) ⌝ }
+    ensures { λ s. ⌜ listened s (now (hint .exit)) (now (output .exit)) ≡ listenedTo (now (hint .entry)) (sets (now (hint .entry)) held (span (byteAt (now (pages .entry)) used) address count)) (joined (byteAt (now (pages .entry)) used) (now (hint .entry)) held address count) (now (output .entry)) (heard (joined (byteAt (now (pages .entry)) used) (now (hint .entry)) held address count) (λ n. leb n (length (now (output .entry))))) ⌝ }
+{
+    let mut text = [0u8; 256];
+    let room = output.len();
+    let r = judge_in(&mut text, pages, used, hint, held, address, count, room);
+    lay(pages, used, hint, held, address, count, output, r)
+}
+
+// A write of count bytes from the address on to the hint descriptor. A refusal changes no byte. `listen_long` stands in two
+// places, so that the compiler leaves it a function of its own: as a part of the step it would make every system call touch the
+// stack that only a long text needs.
 pub(crate) fn listen(
     pages: &[u8],
     used: usize,
@@ -160,6 +182,11 @@ pub(crate) fn listen(
     }
     let kept = held as usize;
     let more = count as usize;
-    let r = decide(pages, used, hint, kept, address, more, output.len());
-    lay(pages, used, hint, kept, address, more, output, r)
+    if Heard::SHORT < more {
+        return listen_long(pages, used, hint, kept, address, more, output);
+    }
+    if Heard::SHORT < kept + more {
+        return listen_long(pages, used, hint, kept, address, more, output);
+    }
+    listen_short(pages, used, hint, kept, address, more, output)
 }
