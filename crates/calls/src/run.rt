@@ -1,8 +1,8 @@
 // How far a list of cases is read, and how its cases went.
 use crate::bytes;
-use libc::STDOUT_FILENO;
+use std::io;
 
-#[derive(Drop)]
+#[derive(Clone, Copy)]
 pub struct Run {
     pub at: usize,
     pub cases: u64,
@@ -69,31 +69,31 @@ pub fn settled(m: &[u8], g: &[u8], r: Run) -> Run {
     n
 }
 
-fn print_name(s: &[u8], r: Run) {
+fn print_name(rt: &impl Print, s: &[u8], r: Run) -> io::Result<()> {
     for k in r.from..r.to {
         let b = [bytes::byte(s, k)];
-        io::write_all(STDOUT_FILENO, &b);
+        rt.write_all(&b)?;
     }
+    Ok(())
 }
 
-fn closed(s: &[u8], r: Run) -> Run {
+fn closed(rt: &impl Print, s: &[u8], r: Run) -> io::Result<Run> {
     let mut n = r;
     if r.open {
-        print_name(s, r);
+        print_name(rt, s, r)?;
         n.open = false;
         n.cases = more(r.cases);
         if r.bad == Run::GOOD {
-            io::write_all(STDOUT_FILENO, b": ok\n");
-            return n;
+            println!(rt; ": ok")?;
+            return Ok(n);
         }
-        io::write_all(STDOUT_FILENO, b": wrong at ");
-        io::print_decimal(STDOUT_FILENO, r.bad as u64);
-        io::write_all(STDOUT_FILENO, b"\n");
+        let bad = r.bad;
+        println!(rt; ": wrong at {bad}")?;
         n.wrong = more(r.wrong);
     }
-    n
+    Ok(n)
 }
 
-pub fn ended(s: &[u8], m: &[u8], g: &[u8], r: Run) -> Run {
-    closed(s, settled(m, g, r))
+pub fn ended(rt: &impl Print, s: &[u8], m: &[u8], g: &[u8], r: Run) -> io::Result<Run> {
+    closed(rt, s, settled(m, g, r))
 }

@@ -21,17 +21,18 @@ use crate::run::Run;
 use crate::words::Word;
 use crate::{machine, run, sets, text};
 use interpreter::utf8;
+use std::io;
 
 // The name goes to the end of its line.
-fn opened(s: &[u8], m: &mut [u8], g: &[u8], r: Run) -> Run {
-    let mut n = run::ended(s, m, g, r);
+fn opened(rt: &impl Print, s: &[u8], m: &mut [u8], g: &[u8], r: Run) -> io::Result<Run> {
+    let mut n = run::ended(rt, s, m, g, r)?;
     machine::plain(m);
     n.open = true;
     n.bad = Run::GOOD;
     n.from = text::next(s, r.at);
     n.to = text::line_end(s, n.from);
     n.at = text::start(s, n.to);
-    n
+    Ok(n)
 }
 
 fn stepped(s: &[u8], m: &mut [u8], g: &mut [u8], r: Run) -> Run {
@@ -68,14 +69,14 @@ fn judged(s: &[u8], r: Run, good: bool) -> Run {
 }
 
 // One word with what belongs to it.
-pub fn turn(s: &[u8], m: &mut [u8], g: &mut [u8], r: Run) -> Run {
+pub fn turn(rt: &impl Print, s: &[u8], m: &mut [u8], g: &mut [u8], r: Run) -> io::Result<Run> {
     let w = text::word(s, r.at);
     match w {
-        Word::CASE => opened(s, m, g, r),
-        Word::STEP => stepped(s, m, g, r),
-        Word::THEN => run::settled(m, g, r.moved(text::next(s, r.at))),
-        Word::VALID => judged(s, r, true),
-        Word::INVALID => judged(s, r, false),
-        _ => sets::set_number(s, m, r, w),
+        Word::CASE => opened(rt, s, m, g, r),
+        Word::STEP => Ok(stepped(s, m, g, r)),
+        Word::THEN => Ok(run::settled(m, g, r.moved(text::next(s, r.at)))),
+        Word::VALID => Ok(judged(s, r, true)),
+        Word::INVALID => Ok(judged(s, r, false)),
+        _ => Ok(sets::set_number(s, m, r, w)),
     }
 }

@@ -3,10 +3,10 @@ ghost use Rattle.std.specs.Prelude.{◌≡◌, length};
 ghost use Rattle.check_records.specs.Input.{Within, judged_of};
 
 use crate::lines::Lines;
-use libc::STDIN_FILENO;
+use std::io::Read;
 
 // How far a buffer was filled: whole, or so many bytes of it until the input ended or a read failed.
-#[derive(Drop)]
+#[derive(Clone, Copy)]
 pub enum Filled {
     Full,
     Ended(usize),
@@ -28,21 +28,19 @@ impl Filled {
 }
 
 // Fills buf. A read may bring fewer bytes than asked, as one of a pipe does, so it is repeated.
-pub fn fill(buf: &mut [u8]) -> Filled
+pub fn fill(rt: &impl Eprint, input: &mut impl Read, buf: &mut [u8]) -> Filled
     ensures { Within result (length buf.new) }
 {
     let mut done = 0;
     while done < buf.len() {
-        let got = libc::read(STDIN_FILENO, &mut buf[done..]);
-        if got < 0 {
-            os::fail(b"standard input");
-            return Filled::Failed(done);
+        match input.read(&mut buf[done..]) {
+            Ok(0) => return Filled::Ended(done),
+            Ok(count) => done += count,
+            Err(error) => {
+                let _ = eprintln!(rt; "standard input: {error}");
+                return Filled::Failed(done);
+            }
         }
-        let more = io::count(got, &buf[done..]);
-        if more == 0 {
-            return Filled::Ended(done);
-        }
-        done += more;
     }
     Filled::Full
 }

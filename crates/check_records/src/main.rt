@@ -1,4 +1,6 @@
 // Judges the step records of standard input, and writes a line for each: its position and the verdict.
+#![tactic(auto)]
+
 mod input;
 mod lines;
 
@@ -7,7 +9,7 @@ ghost use Rattle.check_records.specs.Lines.{count_of};
 
 use crate::input::Filled;
 use crate::lines::Lines;
-use libc::STDOUT_FILENO;
+use std::io::Read;
 
 // Whether to go on, and the position of the next record.
 #[derive(Drop)]
@@ -17,24 +19,32 @@ enum Next {
 }
 
 // Writes the lines of a chunk with one write, and answers whether that went well.
-fn answer(records: &[u8], from: u64, text: &mut [u8]) -> bool
+fn answer(rt: &(impl Print + Eprint), records: &[u8], from: u64, text: &mut [u8]) -> bool
     requires { 32 * count_of records.now ≤ length text.old }
 {
     let count = lines::print(records, from, text);
-    let is_written = io::write_all(STDOUT_FILENO, &text[..count]);
-    if !is_written {
-        os::fail(b"standard output");
+    match rt.write_all(&text[..count]) {
+        Ok(()) => true,
+        Err(error) => {
+            let _ = eprintln!(rt; "standard output: {error}");
+            false
+        }
     }
-    is_written
 }
 
 // Reads a chunk and answers it. Only a full chunk has another behind it.
-fn turn(buf: &mut [u8], from: u64, text: &mut [u8]) -> Next
+fn turn(
+    rt: &(impl Print + Eprint),
+    input: &mut impl Read,
+    buf: &mut [u8],
+    from: u64,
+    text: &mut [u8],
+) -> Next
     requires { 32 * count_of buf.old ≤ length text.old }
 {
-    let filled = input::fill(buf);
+    let filled = input::fill(rt, input, buf);
     let count = filled.judged(buf.len());
-    let is_written = answer(&buf[..count], from, text);
+    let is_written = answer(rt, &buf[..count], from, text);
     if !is_written {
         return Next::Stop;
     }
@@ -47,13 +57,13 @@ fn turn(buf: &mut [u8], from: u64, text: &mut [u8]) -> Next
 
 // A proved loop has to end, and nothing says that the input does. So the loop counts its turns down, from a number that no
 // run uses up.
-fn run(buf: &mut [u8], text: &mut [u8])
+fn run(rt: &(impl Print + Eprint), input: &mut impl Read, buf: &mut [u8], text: &mut [u8])
     requires { 32 * count_of buf.old ≤ length text.old }
 {
     let mut from = 0;
     let mut turns = u64::MAX;
     while turns > 0 {
-        let Next::On(next) = turn(buf, from, text) else {
+        let Next::On(next) = turn(rt, input, buf, from, text) else {
             return;
         };
         from = next;
@@ -61,8 +71,9 @@ fn run(buf: &mut [u8], text: &mut [u8])
     }
 }
 
-fn main() {
+fn main(rt: HostRuntime) {
     let mut buf = [0u8; Lines::CHUNK];
     let mut text = [0u8; Lines::TEXT];
-    run(&mut buf, &mut text);
+    let mut input = rt.stdin();
+    run(&rt, &mut input, &mut buf, &mut text);
 }

@@ -1,4 +1,5 @@
 // Layer 3: the checker of step records.
+#![tactic(auto)]
 
 // What it answers.
 pub mod verdict;

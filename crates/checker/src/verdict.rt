@@ -3,7 +3,7 @@ ghost use Rattle.std.specs.Prelude.{◌≡◌};
 ghost use Rattle.checker.specs.Verdicts.{fault_number};
 
 // Why a record is refused.
-#[derive(Drop)]
+#[derive(Clone, Copy)]
 pub enum Fault {
     // 21: it is not 752 bytes.
     Length,
@@ -21,7 +21,7 @@ pub enum Fault {
     Result,
 }
 
-#[derive(Drop)]
+#[derive(Clone, Copy)]
 pub enum Verdict {
     Accepted,
     Refused(Fault),

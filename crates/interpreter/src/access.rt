@@ -10,7 +10,7 @@ use crate::effect::{Effect, Ins, Outcome, Refusal};
 use crate::{bits, loads, stores};
 
 // An instruction with the eight bytes that it touches, where these lie in a page that is at hand.
-#[derive(Drop)]
+#[derive(Clone, Copy)]
 pub(crate) enum Near {
     Here(Ins),
     Away,

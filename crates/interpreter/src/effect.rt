@@ -6,7 +6,7 @@ use crate::bits;
 use crate::isa::{IType, RType};
 
 // An instruction with all that it reads. `mem` is the eight bytes at the touched address, and 0 where none is touched.
-#[derive(Drop)]
+#[derive(Clone, Copy)]
 pub struct Ins {
     pub rules: u8,
     pub word: u64,
@@ -21,7 +21,7 @@ pub struct Ins {
 
 // What changes. Register 0 is never written, so `dest` is 0 where no register is. `mem` is the eight bytes afterwards;
 // they are stored only where `store` says so.
-#[derive(Drop)]
+#[derive(Clone, Copy)]
 pub struct Change {
     pub dest: u64,
     pub value: u64,
@@ -34,7 +34,7 @@ pub struct Change {
 }
 
 // Why a step is refused (document 01, "Numbers a refusal carries"); an instruction by itself only with 2 to 7.
-#[derive(Drop)]
+#[derive(Clone, Copy)]
 pub enum Refusal {
     // 1: rules, used pages, hint length or recording buffer out of bounds.
     BadMachine,
@@ -64,7 +64,7 @@ pub enum Refusal {
     HintText,
 }
 
-#[derive(Drop)]
+#[derive(Clone, Copy)]
 pub enum Effect {
     Refused(Refusal),
     // SYSCALL: the step executes it.
@@ -73,14 +73,14 @@ pub enum Effect {
 }
 
 // What a group of instructions answers: a value, or that the code is not one of them.
-#[derive(Drop)]
+#[derive(Clone, Copy)]
 pub enum Known {
     Value(u64),
     Unknown,
 }
 
 // The same of a group that can refuse.
-#[derive(Drop)]
+#[derive(Clone, Copy)]
 pub enum Outcome {
     Value(u64),
     Trapped(Refusal),
@@ -88,7 +88,7 @@ pub enum Outcome {
 }
 
 // The eight bytes that an instruction touches, by their address.
-#[derive(Drop)]
+#[derive(Clone, Copy)]
 pub enum Touch {
     Nothing,
     Eight(u64),

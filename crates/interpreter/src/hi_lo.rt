@@ -8,7 +8,7 @@ use crate::bits;
 use crate::effect::{Effect, Ins, Refusal};
 use crate::isa::RType;
 
-#[derive(Drop)]
+#[derive(Clone, Copy)]
 pub struct Pair {
     pub hi: u64,
     pub lo: u64,

@@ -12,7 +12,7 @@ use crate::utf8;
 use pages::{bytes, reader};
 
 // What is done with the bytes held.
-#[derive(Drop)]
+#[derive(Clone, Copy)]
 pub enum Heard {
     Keep,
     // The hint has so many bytes, without its length.

@@ -6,7 +6,7 @@ ghost use Rattle.interpreter.specs.Inputs.{has_key, entry_of, inside, part_def, 
 use pages::bytes;
 
 // What an index has for a key: where the preimage starts in the data and how long it is.
-#[derive(Drop)]
+#[derive(Clone, Copy)]
 pub enum Entry {
     At(u64, u64),
     Absent,

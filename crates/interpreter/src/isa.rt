@@ -2,7 +2,7 @@
 ghost use Rattle.std.specs.Prelude.{◌≡◌};
 ghost use Rattle.interpreter.specs.Isa.{opcode_of, rs_of, rt_of, rd_of, shamt_of, funct_of, imm_of, target_of};
 
-#[derive(Drop)]
+#[derive(Clone, Copy)]
 pub struct RType {
     pub rs: u64,
     pub rt: u64,
@@ -25,7 +25,7 @@ impl RType {
     }
 }
 
-#[derive(Drop)]
+#[derive(Clone, Copy)]
 pub struct IType {
     pub rs: u64,
     pub rt: u64,
@@ -44,7 +44,7 @@ impl IType {
     }
 }
 
-#[derive(Drop)]
+#[derive(Clone, Copy)]
 pub struct JType {
     pub address: u64,
 }
@@ -60,7 +60,7 @@ impl JType {
 }
 
 // Codes of the opcode field. BEQL is known, and always refused.
-#[derive(Drop)]
+#[derive(Clone, Copy)]
 pub struct Opcode {
     pub code: u64,
 }
@@ -160,7 +160,7 @@ impl Opcode {
 }
 
 // Codes of the function field under SPECIAL.
-#[derive(Drop)]
+#[derive(Clone, Copy)]
 pub struct SpecialFunction {
     pub code: u64,
 }
@@ -262,7 +262,7 @@ impl SpecialFunction {
 }
 
 // Codes of the function field under SPECIAL2. isa.rs has CLO and CLZ the other way round, and so has its loop.
-#[derive(Drop)]
+#[derive(Clone, Copy)]
 pub struct Special2Function {
     pub code: u64,
 }
@@ -278,7 +278,7 @@ impl Special2Function {
 }
 
 // Codes of the rt field under REGIMM.
-#[derive(Drop)]
+#[derive(Clone, Copy)]
 pub struct RegImmFunction {
     pub code: u64,
 }

@@ -5,7 +5,7 @@ ghost use Rattle.interpreter.specs.Parts.{key_of};
 use crate::isa::{Opcode, RType, SpecialFunction};
 
 // The opcode field, and of SPECIAL, whose opcode is 0, the function field behind all opcodes.
-#[derive(Drop)]
+#[derive(Clone, Copy)]
 pub(crate) struct Key {
     pub code: u64,
 }

@@ -10,7 +10,7 @@ use crate::state::{Cpu, State};
 use pages::bytes;
 
 // Where a state's parts stand in its bytes.
-#[derive(Drop)]
+#[derive(Clone, Copy)]
 pub struct Layout {
     pub at: usize,
 }
@@ -52,7 +52,7 @@ impl Layout {
 }
 
 // What bytes say: the state that they are, or that they are none and a state of zeros.
-#[derive(Drop)]
+#[derive(Clone, Copy)]
 pub struct Decoded {
     pub formed: bool,
     pub state: State,

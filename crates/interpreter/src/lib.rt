@@ -1,4 +1,5 @@
 // Layer 2: the machine.
+#![tactic(auto)]
 
 // What an instruction reads, and what it does.
 pub mod effect;

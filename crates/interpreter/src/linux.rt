@@ -5,7 +5,7 @@ ghost use Rattle.interpreter.specs.Calls.{bad_descriptor, mmap, reading, writing
 use crate::bits;
 
 // Errors.
-#[derive(Drop)]
+#[derive(Clone, Copy)]
 pub struct Errno {
     pub number: u64,
 }
@@ -17,7 +17,7 @@ impl Errno {
 }
 
 // Descriptors.
-#[derive(Drop)]
+#[derive(Clone, Copy)]
 pub struct Fd {
     pub number: u64,
 }
@@ -38,7 +38,7 @@ impl Fd {
     pub const PREIMAGE_WRITE: u64 = 6;
 }
 
-#[derive(Drop)]
+#[derive(Clone, Copy)]
 pub struct Syscall {
     pub number: u64,
 }
@@ -69,7 +69,7 @@ impl Syscall {
 }
 
 // Which call it is. What touches no memory is answered already.
-#[derive(Drop)]
+#[derive(Clone, Copy)]
 pub enum Call {
     // The answer, and the error.
     Answer(u64, u64),

@@ -19,7 +19,7 @@ use crate::window::{Pair, Window};
 use crate::{bits, cpu, frequent, step};
 
 // The numbers that instructions change. The others stay, and a loop need not carry them.
-#[derive(Drop)]
+#[derive(Clone, Copy)]
 pub(crate) struct Core {
     pub pc: u64,
     pub next: u64,
@@ -28,7 +28,7 @@ pub(crate) struct Core {
 }
 
 // A step that was made, or was not and left everything as it was; and the pages of the loads and stores.
-#[derive(Drop)]
+#[derive(Clone, Copy)]
 pub(crate) struct Turn {
     pub made: bool,
     pub core: Core,
@@ -36,7 +36,7 @@ pub(crate) struct Turn {
 }
 
 // The word at pc, where pc is aligned and its page is there, and that page.
-#[derive(Drop)]
+#[derive(Clone, Copy)]
 pub(crate) struct Fetched {
     pub found: bool,
     pub code: Window,
@@ -44,7 +44,7 @@ pub(crate) struct Fetched {
 }
 
 // How far the steps went.
-#[derive(Drop)]
+#[derive(Clone, Copy)]
 pub(crate) struct Went {
     pub cpu: Cpu,
     pub count: u64,

@@ -17,7 +17,7 @@ use crate::{cpu, layout, step, syscall};
 use pages::bytes;
 
 // Where a record's parts stand in its bytes.
-#[derive(Drop)]
+#[derive(Clone, Copy)]
 pub struct Record {
     pub at: usize,
 }
@@ -76,7 +76,7 @@ pub(crate) fn put_rest(buf: &mut [u8], word: u64, t: Touch, old: u64, new: u64)
 }
 
 // What is known of a step before it is made: whether it is wide, and the eight bytes that it touches.
-#[derive(Drop)]
+#[derive(Clone, Copy)]
 pub(crate) struct Seen {
     pub wide: bool,
     pub touch: Touch,

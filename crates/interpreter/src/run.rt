@@ -12,7 +12,7 @@ use crate::{quick, step};
 
 // What the loop leaves beside the lent bytes: the last call's answer, the numbers, the used records, and how many steps were
 // unrefused and from unexited states.
-#[derive(Drop)]
+#[derive(Clone, Copy)]
 pub(crate) struct Reached {
     pub answer: Answer,
     pub cpu: Cpu,
@@ -21,7 +21,7 @@ pub(crate) struct Reached {
 }
 
 // What a run leaves beside the lent bytes.
-#[derive(Drop)]
+#[derive(Clone, Copy)]
 pub struct Stopped {
     pub answer: Answer,
     pub state: State,

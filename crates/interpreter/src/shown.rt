@@ -15,7 +15,7 @@ use crate::step::Next;
 use crate::{cpu, step, syscall};
 
 // What becomes of such a step.
-#[derive(Drop)]
+#[derive(Clone, Copy)]
 pub enum Made {
     // With 2 to 7.
     Refused(Refusal),

@@ -6,7 +6,7 @@ use crate::bits;
 use crate::effect::Change;
 
 // The state, with its rules number.
-#[derive(Drop)]
+#[derive(Clone, Copy)]
 pub struct State {
     pub regs: [u64; 32],
     pub pc: u64,
@@ -27,7 +27,7 @@ pub struct State {
 }
 
 // A state's numbers, without its registers and key: a step works on these and on lent registers.
-#[derive(Drop)]
+#[derive(Clone, Copy)]
 pub struct Cpu {
     pub pc: u64,
     pub next: u64,

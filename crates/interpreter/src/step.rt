@@ -19,7 +19,7 @@ use pages::memory::{Loaded, Stored};
 use pages::page::Page;
 
 // What a step answers.
-#[derive(Drop)]
+#[derive(Clone, Copy)]
 pub enum Answer {
     Stepped,
     // Stream and count.
@@ -31,7 +31,7 @@ pub enum Answer {
 }
 
 // An answer in document 01's numbers: which one it is, counted from 0 in document 01's order, and its values.
-#[derive(Drop)]
+#[derive(Clone, Copy)]
 pub struct Values {
     pub kind: u8,
     pub first: u64,
@@ -64,7 +64,7 @@ fn said(kind: u8, first: u64, second: u64) -> Values
 
 // What a step leaves beside the lent bytes: the answer, the numbers, the used records, and whether it was an unrefused step
 // from an unexited state.
-#[derive(Drop)]
+#[derive(Clone, Copy)]
 pub(crate) struct Next {
     pub answer: Answer,
     pub cpu: Cpu,
@@ -73,7 +73,7 @@ pub(crate) struct Next {
 }
 
 // What the step by value leaves beside the lent bytes.
-#[derive(Drop)]
+#[derive(Clone, Copy)]
 pub struct Finished {
     pub answer: Answer,
     pub state: State,
@@ -83,7 +83,7 @@ pub struct Finished {
 }
 
 // What the step in place leaves beside the lent machine: the same without the state.
-#[derive(Drop)]
+#[derive(Clone, Copy)]
 pub struct InPlace {
     pub answer: Answer,
     pub used: usize,
@@ -347,8 +347,7 @@ pub fn step(
     }
 }
 
-// The same on a lent machine, stepped where it is. Rattle does not cover a lent struct: this stays thin, and its proof is a walk
-// by hand.
+// The same on a lent machine, stepped where it is.
 pub fn step_in_place(
     s: &mut State,
     pages: &mut [u8],

@@ -11,7 +11,7 @@ use pages::page::{Lookup, Page};
 use pages::{bytes, page};
 
 // A page's number, and where its bytes stand in the slice.
-#[derive(Drop)]
+#[derive(Clone, Copy)]
 pub(crate) struct Window {
     pub number: u64,
     pub at: usize,
@@ -89,7 +89,7 @@ impl Window {
 }
 
 // The pages of the last two loads and stores that were not in the same, the last one first.
-#[derive(Drop)]
+#[derive(Clone, Copy)]
 pub(crate) struct Pair {
     pub near: Window,
     pub far: Window,

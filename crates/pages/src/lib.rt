@@ -1,5 +1,6 @@
 // Layer 1: the page memory of document 01, "What the machine holds", over a lent slice of page records.
 // A record is 4,104 bytes: the page's number in eight bytes, big-endian, and then its 4,096 bytes.
+#![tactic(auto)]
 
 // Numbers and runs of bytes at a place of a slice.
 mod inside;

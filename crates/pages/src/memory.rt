@@ -5,7 +5,7 @@ ghost use Rattle.pages.specs.Calls.{get_def, stored, set_def};
 use crate::page::{Place, Room};
 use crate::{inside, page};
 
-#[derive(Drop)]
+#[derive(Clone, Copy)]
 pub struct Word {
     pub value: u32,
 }
@@ -14,7 +14,7 @@ impl Word {
     pub const SIZE: u64 = 4;
 }
 
-#[derive(Drop)]
+#[derive(Clone, Copy)]
 pub struct Doubleword {
     pub value: u64,
 }
@@ -23,7 +23,7 @@ impl Doubleword {
     pub const SIZE: u64 = 8;
 }
 
-#[derive(Drop)]
+#[derive(Clone, Copy)]
 pub enum Loaded {
     Value(u64),
     Misaligned,
@@ -59,7 +59,7 @@ pub fn get_doubleword(pages: &[u8], used: usize, address: u64) -> Loaded
 }
 
 // What a store answers: how many records are used afterwards, or why nothing was stored.
-#[derive(Drop)]
+#[derive(Clone, Copy)]
 pub enum Stored {
     Used(usize),
     Misaligned,

@@ -5,7 +5,7 @@ ghost use Rattle.pages.specs.Places.{place_of, room, room_of};
 
 use crate::inside;
 
-#[derive(Drop)]
+#[derive(Clone, Copy)]
 pub struct Page {
     pub number: u64,
 }
@@ -23,7 +23,7 @@ impl Page {
 }
 
 // Which record holds a page.
-#[derive(Drop)]
+#[derive(Clone, Copy)]
 pub enum Lookup {
     Record(usize),
     Absent,
@@ -49,7 +49,7 @@ pub fn page_lookup(pages: &[u8], used: usize, number: u64) -> Lookup
 }
 
 // Where the byte of an address stands in the slice.
-#[derive(Drop)]
+#[derive(Clone, Copy)]
 pub(crate) enum Place {
     At(usize),
     Absent,
@@ -79,7 +79,7 @@ fn open_page(pages: &mut [u8], next: usize, number: u64)
 }
 
 // Where a store to an address goes, and how many records are used then.
-#[derive(Drop)]
+#[derive(Clone, Copy)]
 pub(crate) enum Room {
     At(usize, usize),
     Full,

@@ -9,13 +9,13 @@ use crate::page::{Page, Place};
 use crate::{inside, page};
 
 // Where a reader stands, and how many bytes it may still read.
-#[derive(Drop)]
+#[derive(Clone, Copy)]
 pub struct Position {
     pub address: u64,
     pub count: u64,
 }
 
-#[derive(Drop)]
+#[derive(Clone, Copy)]
 pub enum Read {
     // So many bytes were read, and the reader stands there now.
     Moved(usize, Position),
@@ -85,9 +85,8 @@ impl Position {
     }
 }
 
-// A reader that holds the pages' slice. Rattle covers no function over such a struct, so these are thin and their proofs are
-// walks by hand: each takes the reader apart, and Position does the work.
-#[derive(Drop)]
+// A reader that holds the pages' slice. Its functions are thin: Position does the work.
+#[derive(Clone, Copy)]
 pub struct MemoryReader<'a> {
     pub pages: &'a [u8],
     pub used: usize,
@@ -131,7 +130,7 @@ impl<'a> MemoryReader<'a> {
     }
 }
 
-// A reader is made and read from. The parameters are plain, so whoever calls this needs no walk.
+// A reader is made and read from.
 fn read_memory(pages: &[u8], used: usize, address: u64, count: u64, buf: &mut [u8]) -> Read
     ensures { given result buf.new ≡ read_def pages.now used (record { address = address; count = count }) buf.old }
 {

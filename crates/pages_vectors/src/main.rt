@@ -1,8 +1,11 @@
 // Document 01's page records at their edges. What each line must say is worked by hand from document 01, "What the
 // machine holds", second paragraph, in the comment above the call.
+#![tactic(auto)]
+
 mod show;
 
 use pages::reader::Position;
+use std::io;
 
 const TOP: u64 = 0xffff_ffff_ffff_fff8;
 
@@ -12,93 +15,94 @@ fn filled() -> [u8; 12317] {
 }
 
 // Record 0 becomes page 0: its number, zeros, and then the store; nothing behind it changes.
-fn open_first(pages: &mut [u8]) -> usize {
+fn open_first(rt: &impl Print, pages: &mut [u8]) -> io::Result<usize> {
     // no record is used, so page 0 is absent and reads as zero
-    show::lookup(b"nothing used", pages, 0, 0);
-    show::word(b"absent word", pages, 0, 0);
-    let used = show::put_doubleword(b"store at 0", pages, 0, 0, 0x0102_0304_0506_0708);
-    show::bytes(b"number", pages, 0, 8);
-    show::bytes(b"first eight", pages, 8, 16);
-    show::others(b"rest of page 0 against 00", pages, 16, 4104, 0);
-    show::others(b"behind it against ee", pages, 4104, 12317, 0xee);
-    used
+    show::lookup(rt, "nothing used", pages, 0, 0)?;
+    show::word(rt, "absent word", pages, 0, 0)?;
+    let used = show::put_doubleword(rt, "store at 0", pages, 0, 0, 0x0102_0304_0506_0708)?;
+    show::bytes(rt, "number", pages, 0, 8)?;
+    show::bytes(rt, "first eight", pages, 8, 16)?;
+    show::others(rt, "rest of page 0 against 00", pages, 16, 4104, 0)?;
+    show::others(rt, "behind it against ee", pages, 4104, 12317, 0xee)?;
+    Ok(used)
 }
 
 // (2^64 - 8) / 4,096 is 2^52 - 1; the place is the last of record 1.
-fn open_second(pages: &mut [u8], used: usize) -> usize {
+fn open_second(rt: &impl Print, pages: &mut [u8], used: usize) -> io::Result<usize> {
     let used = show::put_doubleword(
-        b"store at 2^64 - 8",
+        rt,
+        "store at 2^64 - 8",
         pages,
         used,
         TOP,
         0x1112_1314_1516_1718,
-    );
-    show::bytes(b"number", pages, 4104, 4112);
-    show::others(b"page 2^52 - 1 against 00", pages, 4112, 8200, 0);
-    show::bytes(b"last eight", pages, 8200, 8208);
-    used
+    )?;
+    show::bytes(rt, "number", pages, 4104, 4112)?;
+    show::others(rt, "page 2^52 - 1 against 00", pages, 4112, 8200, 0)?;
+    show::bytes(rt, "last eight", pages, 8200, 8208)?;
+    Ok(used)
 }
 
-fn edges(pages: &mut [u8], used: usize) {
-    show::doubleword(b"doubleword at 0", pages, used, 0);
-    show::word(b"word at 4", pages, used, 4);
-    show::doubleword(b"doubleword at 2^64 - 8", pages, used, TOP);
-    show::word(b"word at 2^64 - 4", pages, used, 0xffff_ffff_ffff_fffc);
+fn edges(rt: &impl Print, pages: &mut [u8], used: usize) -> io::Result<()> {
+    show::doubleword(rt, "doubleword at 0", pages, used, 0)?;
+    show::word(rt, "word at 4", pages, used, 4)?;
+    show::doubleword(rt, "doubleword at 2^64 - 8", pages, used, TOP)?;
+    show::word(rt, "word at 2^64 - 4", pages, used, 0xffff_ffff_ffff_fffc)?;
     // the last word of page 0 stands at 8 + 4092
-    show::put_word(b"word to 4092", pages, used, 4092, 0x2122_2324);
-    show::bytes(b"last eight of page 0", pages, 4096, 4104);
-    show::doubleword(b"doubleword at 4088", pages, used, 4088);
+    show::put_word(rt, "word to 4092", pages, used, 4092, 0x2122_2324)?;
+    show::bytes(rt, "last eight of page 0", pages, 4096, 4104)?;
+    show::doubleword(rt, "doubleword at 4088", pages, used, 4088)
 }
 
 // Addresses that are not aligned: nothing is loaded or stored.
-fn misaligned(pages: &mut [u8], used: usize) {
-    show::word(b"word at 2", pages, used, 2);
-    show::doubleword(b"doubleword at 4", pages, used, 4);
-    show::put_word(b"word to 1", pages, used, 1, 0);
-    show::put_doubleword(b"doubleword to 4", pages, used, 4, 0);
-    show::bytes(b"first eight", pages, 8, 16);
+fn misaligned(rt: &impl Print, pages: &mut [u8], used: usize) -> io::Result<()> {
+    show::word(rt, "word at 2", pages, used, 2)?;
+    show::doubleword(rt, "doubleword at 4", pages, used, 4)?;
+    show::put_word(rt, "word to 1", pages, used, 1, 0)?;
+    show::put_doubleword(rt, "doubleword to 4", pages, used, 4, 0)?;
+    show::bytes(rt, "first eight", pages, 8, 16)
 }
 
 // The third record is the last whole one.
-fn open_last(pages: &mut [u8], used: usize) -> usize {
-    show::bytes(b"remainder", pages, 12312, 12317);
-    let used = show::put_word(b"word to 0x7000", pages, used, 0x7000, 0x3132_3334);
-    show::bytes(b"number", pages, 8208, 8216);
-    show::lookup(b"page 7 of three", pages, used, 7);
-    used
+fn open_last(rt: &impl Print, pages: &mut [u8], used: usize) -> io::Result<usize> {
+    show::bytes(rt, "remainder", pages, 12312, 12317)?;
+    let used = show::put_word(rt, "word to 0x7000", pages, used, 0x7000, 0x3132_3334)?;
+    show::bytes(rt, "number", pages, 8208, 8216)?;
+    show::lookup(rt, "page 7 of three", pages, used, 7)?;
+    Ok(used)
 }
 
 // No record is left for an absent page; a page that is held takes its store.
-fn full(pages: &mut [u8], used: usize) -> usize {
-    let used = show::put_doubleword(b"doubleword to 0x9000", pages, used, 0x9000, 0x4142_4344);
-    show::doubleword(b"doubleword at 0x9000", pages, used, 0x9000);
-    let used = show::put_word(b"word to 0x7004", pages, used, 0x7004, 0x3536_3738);
-    show::doubleword(b"doubleword at 0x7000", pages, used, 0x7000);
-    show::bytes(b"remainder", pages, 12312, 12317);
-    used
+fn full(rt: &impl Print, pages: &mut [u8], used: usize) -> io::Result<usize> {
+    let used = show::put_doubleword(rt, "doubleword to 0x9000", pages, used, 0x9000, 0x4142_4344)?;
+    show::doubleword(rt, "doubleword at 0x9000", pages, used, 0x9000)?;
+    let used = show::put_word(rt, "word to 0x7004", pages, used, 0x7004, 0x3536_3738)?;
+    show::doubleword(rt, "doubleword at 0x7000", pages, used, 0x7000)?;
+    show::bytes(rt, "remainder", pages, 12312, 12317)?;
+    Ok(used)
 }
 
 // Four used records of three: every call says so, and changes nothing.
-fn overused(pages: &mut [u8]) {
-    show::lookup(b"overused lookup", pages, 4, 0);
-    show::word(b"overused word", pages, 4, 0);
-    show::doubleword(b"overused doubleword", pages, 4, 0);
-    show::put_word(b"overused word to 0", pages, 4, 0, 0);
-    show::put_doubleword(b"overused doubleword to 0x9000", pages, 4, 0x9000, 0);
-    show::bytes(b"first eight", pages, 8, 16);
-    show::bytes(b"remainder", pages, 12312, 12317);
+fn overused(rt: &impl Print, pages: &mut [u8]) -> io::Result<()> {
+    show::lookup(rt, "overused lookup", pages, 4, 0)?;
+    show::word(rt, "overused word", pages, 4, 0)?;
+    show::doubleword(rt, "overused doubleword", pages, 4, 0)?;
+    show::put_word(rt, "overused word to 0", pages, 4, 0, 0)?;
+    show::put_doubleword(rt, "overused doubleword to 0x9000", pages, 4, 0x9000, 0)?;
+    show::bytes(rt, "first eight", pages, 8, 16)?;
+    show::bytes(rt, "remainder", pages, 12312, 12317)
 }
 
 // Bytes from 2^64 - 4 on: four of the last page, and then those of page 0; what is behind them in the buffer stays.
-fn wrapped(pages: &[u8], used: usize, buf: &mut [u8]) {
+fn wrapped(rt: &impl Print, pages: &[u8], used: usize, buf: &mut [u8]) -> io::Result<()> {
     let p = Position {
         address: 0xffff_ffff_ffff_fffc,
         count: 8,
     };
-    show::read(b"overused read", pages, 4, p, buf);
-    show::bytes(b"buffer", buf, 0, 4);
-    show::read(b"read at 2^64 - 4", pages, used, p, buf);
-    show::bytes(b"buffer", buf, 0, 10);
+    show::read(rt, "overused read", pages, 4, p, buf)?;
+    show::bytes(rt, "buffer", buf, 0, 4)?;
+    show::read(rt, "read at 2^64 - 4", pages, used, p, buf)?;
+    show::bytes(rt, "buffer", buf, 0, 10)
 }
 
 // The last byte of record 1's number becomes 5.
@@ -109,49 +113,71 @@ fn make_five(pages: &mut [u8]) {
 }
 
 // Records 0 and 1 both have number 5, and record 2 has number 7: record 1 is opened as page 7 first.
-fn open_twice(pages: &mut [u8]) {
-    show::put_doubleword(b"store to page 5", pages, 0, 0x5ff8, 0x5152_5354_5556_5758);
-    show::put_doubleword(b"store to page 7", pages, 1, 0x7000, 0x6162_6364_6566_6768);
+fn open_twice(rt: &impl Print, pages: &mut [u8]) -> io::Result<()> {
+    show::put_doubleword(
+        rt,
+        "store to page 5",
+        pages,
+        0,
+        0x5ff8,
+        0x5152_5354_5556_5758,
+    )?;
+    show::put_doubleword(
+        rt,
+        "store to page 7",
+        pages,
+        1,
+        0x7000,
+        0x6162_6364_6566_6768,
+    )?;
     make_five(pages);
-    show::put_doubleword(b"store to page 7", pages, 2, 0x7000, 0x7172_7374_7576_7778);
+    show::put_doubleword(
+        rt,
+        "store to page 7",
+        pages,
+        2,
+        0x7000,
+        0x7172_7374_7576_7778,
+    )?;
+    Ok(())
 }
 
 // The first of the two decides.
-fn twice(pages: &mut [u8]) {
-    show::lookup(b"page 5 twice", pages, 3, 5);
-    show::doubleword(b"doubleword at 0x5000", pages, 3, 0x5000);
-    show::put_word(b"word to 0x5000", pages, 3, 0x5000, 0x8182_8384);
-    show::bytes(b"first record", pages, 8, 16);
-    show::bytes(b"second record", pages, 4112, 4120);
+fn twice(rt: &impl Print, pages: &mut [u8]) -> io::Result<()> {
+    show::lookup(rt, "page 5 twice", pages, 3, 5)?;
+    show::doubleword(rt, "doubleword at 0x5000", pages, 3, 0x5000)?;
+    show::put_word(rt, "word to 0x5000", pages, 3, 0x5000, 0x8182_8384)?;
+    show::bytes(rt, "first record", pages, 8, 16)?;
+    show::bytes(rt, "second record", pages, 4112, 4120)
 }
 
 // Twelve bytes more than a page, from the last six of page 5 on: then all of page 6, which is absent, and the first
 // six of page 7. The buffer ends there, and 892 of the 5,000 are left.
-fn across(pages: &[u8], buf: &mut [u8]) {
+fn across(rt: &impl Print, pages: &[u8], buf: &mut [u8]) -> io::Result<()> {
     let p = Position {
         address: 0x5ffa,
         count: 5000,
     };
-    show::read(b"read across three pages", pages, 3, p, buf);
-    show::bytes(b"end of page 5", buf, 0, 6);
-    show::others(b"page 6 against 00", buf, 6, 4102, 0);
-    show::bytes(b"front of page 7", buf, 4102, 4108);
+    show::read(rt, "read across three pages", pages, 3, p, buf)?;
+    show::bytes(rt, "end of page 5", buf, 0, 6)?;
+    show::others(rt, "page 6 against 00", buf, 6, 4102, 0)?;
+    show::bytes(rt, "front of page 7", buf, 4102, 4108)
 }
 
-fn main() {
+fn main(rt: HostRuntime) -> io::Result<()> {
     let mut pages = filled();
     let mut buf = [0xddu8; 16];
-    let used = open_first(&mut pages);
-    let used = open_second(&mut pages, used);
-    edges(&mut pages, used);
-    misaligned(&mut pages, used);
-    let used = open_last(&mut pages, used);
-    let used = full(&mut pages, used);
-    overused(&mut pages);
-    wrapped(&pages, used, &mut buf);
+    let used = open_first(&rt, &mut pages)?;
+    let used = open_second(&rt, &mut pages, used)?;
+    edges(&rt, &mut pages, used)?;
+    misaligned(&rt, &mut pages, used)?;
+    let used = open_last(&rt, &mut pages, used)?;
+    let used = full(&rt, &mut pages, used)?;
+    overused(&rt, &mut pages)?;
+    wrapped(&rt, &pages, used, &mut buf)?;
     let mut others = filled();
-    open_twice(&mut others);
-    twice(&mut others);
+    open_twice(&rt, &mut others)?;
+    twice(&rt, &mut others)?;
     let mut long = [0xddu8; 4108];
-    across(&others, &mut long);
+    across(&rt, &others, &mut long)
 }

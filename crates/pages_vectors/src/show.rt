@@ -1,126 +1,153 @@
 // Lines of output: a label, and what a call answered or what a slice holds.
-use libc::STDOUT_FILENO;
 use pages::memory::{Loaded, Stored};
 use pages::page::Lookup;
 use pages::reader::{Position, Read};
 use pages::{memory, page};
+use std::io;
 
-fn text(t: &[u8]) {
-    io::write_all(STDOUT_FILENO, t);
+fn line(rt: &impl Print, label: &str, answer: &str) -> io::Result<()> {
+    println!(rt; "{label}: {answer}")
 }
 
-fn line(label: &[u8], answer: &[u8]) {
-    text(label);
-    text(b": ");
-    text(answer);
-    text(b"\n");
+fn number(rt: &impl Print, label: &str, answer: &str, n: u64) -> io::Result<()> {
+    println!(rt; "{label}: {answer}{n}")
 }
 
-fn number(label: &[u8], answer: &[u8], n: u64) {
-    text(label);
-    text(b": ");
-    text(answer);
-    io::print_decimal(STDOUT_FILENO, n);
-    text(b"\n");
-}
-
-pub fn lookup(label: &[u8], pages: &[u8], used: usize, page: u64) {
+pub fn lookup(
+    rt: &impl Print,
+    label: &str,
+    pages: &[u8],
+    used: usize,
+    page: u64,
+) -> io::Result<()> {
     let r = page::page_lookup(pages, used, page);
     match r {
-        Lookup::Record(i) => number(label, b"record ", i as u64),
-        Lookup::Absent => line(label, b"absent"),
-        Lookup::Overused => line(label, b"overused"),
+        Lookup::Record(i) => number(rt, label, "record ", i as u64),
+        Lookup::Absent => line(rt, label, "absent"),
+        Lookup::Overused => line(rt, label, "overused"),
     }
 }
 
-fn loaded(label: &[u8], r: Loaded) {
+fn loaded(rt: &impl Print, label: &str, r: Loaded) -> io::Result<()> {
     match r {
-        Loaded::Value(v) => {
-            text(label);
-            text(b": ");
-            io::print_hex(STDOUT_FILENO, v, 16);
-            text(b"\n");
-        }
-        Loaded::Misaligned => line(label, b"misaligned"),
-        Loaded::Overused => line(label, b"overused"),
+        Loaded::Value(v) => println!(rt; "{label}: {v:016x}"),
+        Loaded::Misaligned => line(rt, label, "misaligned"),
+        Loaded::Overused => line(rt, label, "overused"),
     }
 }
 
-pub fn word(label: &[u8], pages: &[u8], used: usize, address: u64) {
-    loaded(label, memory::get_word(pages, used, address));
+pub fn word(
+    rt: &impl Print,
+    label: &str,
+    pages: &[u8],
+    used: usize,
+    address: u64,
+) -> io::Result<()> {
+    loaded(rt, label, memory::get_word(pages, used, address))
 }
 
-pub fn doubleword(label: &[u8], pages: &[u8], used: usize, address: u64) {
-    loaded(label, memory::get_doubleword(pages, used, address));
+pub fn doubleword(
+    rt: &impl Print,
+    label: &str,
+    pages: &[u8],
+    used: usize,
+    address: u64,
+) -> io::Result<()> {
+    loaded(rt, label, memory::get_doubleword(pages, used, address))
 }
 
 // The answer of a store, and how many records are used now.
-fn stored(label: &[u8], used: usize, r: Stored) -> usize {
+fn stored(rt: &impl Print, label: &str, used: usize, r: Stored) -> io::Result<usize> {
     match r {
         Stored::Used(n) => {
-            number(label, b"used ", n as u64);
-            n
+            number(rt, label, "used ", n as u64)?;
+            Ok(n)
         }
         Stored::Misaligned => {
-            line(label, b"misaligned");
-            used
+            line(rt, label, "misaligned")?;
+            Ok(used)
         }
         Stored::Overused => {
-            line(label, b"overused");
-            used
+            line(rt, label, "overused")?;
+            Ok(used)
         }
         Stored::Full => {
-            line(label, b"full");
-            used
+            line(rt, label, "full")?;
+            Ok(used)
         }
     }
 }
 
-pub fn put_word(label: &[u8], pages: &mut [u8], used: usize, address: u64, v: u32) -> usize {
+pub fn put_word(
+    rt: &impl Print,
+    label: &str,
+    pages: &mut [u8],
+    used: usize,
+    address: u64,
+    v: u32,
+) -> io::Result<usize> {
     let r = memory::set_word(pages, used, address, v);
-    stored(label, used, r)
+    stored(rt, label, used, r)
 }
 
-pub fn put_doubleword(label: &[u8], pages: &mut [u8], used: usize, address: u64, v: u64) -> usize {
+pub fn put_doubleword(
+    rt: &impl Print,
+    label: &str,
+    pages: &mut [u8],
+    used: usize,
+    address: u64,
+    v: u64,
+) -> io::Result<usize> {
     let r = memory::set_doubleword(pages, used, address, v);
-    stored(label, used, r)
+    stored(rt, label, used, r)
 }
 
-pub fn read(label: &[u8], pages: &[u8], used: usize, p: Position, buf: &mut [u8]) {
+pub fn read(
+    rt: &impl Print,
+    label: &str,
+    pages: &[u8],
+    used: usize,
+    p: Position,
+    buf: &mut [u8],
+) -> io::Result<()> {
     let r = p.read(pages, used, buf);
     match r {
         Read::Moved(n, p) => {
-            number(label, b"read ", n as u64);
-            number(label, b"left ", p.count);
-            text(label);
-            text(b": now at ");
-            io::print_hex(STDOUT_FILENO, p.address, 16);
-            text(b"\n");
+            number(rt, label, "read ", n as u64)?;
+            number(rt, label, "left ", p.count)?;
+            let address = p.address;
+            println!(rt; "{label}: now at {address:016x}")
         }
-        Read::Overused => line(label, b"overused"),
+        Read::Overused => line(rt, label, "overused"),
     }
 }
 
-fn hex(b: u8) {
-    io::print_hex(STDOUT_FILENO, b as u64, 2);
+fn hex(rt: &impl Print, b: u8) -> io::Result<()> {
+    print!(rt; "{b:02x}")
 }
 
 // The bytes of s from one place to another, in hexadecimal.
-pub fn bytes(label: &[u8], s: &[u8], from: usize, to: usize) {
-    text(label);
-    text(b": ");
+pub fn bytes(rt: &impl Print, label: &str, s: &[u8], from: usize, to: usize) -> io::Result<()> {
+    print!(rt; "{label}: ")?;
     let mut i = from;
     while i < to {
         if i < s.len() {
-            hex(s[i]);
+            hex(rt, s[i])?;
         }
         i += 1;
     }
-    text(b"\n");
+    println!(rt; "")
 }
 
 // How many bytes of s from one place to another are not b.
-pub fn others(label: &[u8], s: &[u8], from: usize, to: usize, b: u8) {
+pub fn others(
+    rt: &impl Print,
+    label: &str,
+    s: &[u8],
+    from: usize,
+    to: usize,
+    b: u8,
+) -> io::Result<()> {
     let mut n: u64 = 0;
     let mut i = from;
     while i < to {
@@ -131,5 +158,5 @@ pub fn others(label: &[u8], s: &[u8], from: usize, to: usize, b: u8) {
         }
         i += 1;
     }
-    number(label, b"differing ", n);
+    number(rt, label, "differing ", n)
 }

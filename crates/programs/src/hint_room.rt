@@ -3,10 +3,11 @@ use crate::machine::Machine;
 use crate::say;
 use interpreter::step;
 use pages::bytes;
+use std::io;
 
 // One write of count bytes from 2000 on. Says the answer, the hint length and the step count then, and the bytes on both sides
 // of place 65,536.
-fn write(pages: &mut [u8], used: usize, held: u64, count: u64) {
+fn write(rt: &impl Print, pages: &mut [u8], used: usize, held: u64, count: u64) -> io::Result<()> {
     let mut s = Machine::state(1);
     s.regs[2] = 5001;
     s.regs[4] = 4;
@@ -18,40 +19,40 @@ fn write(pages: &mut [u8], used: usize, held: u64, count: u64) {
     let f = step::step(s, pages, used, &mut hint, &mut output, &[], &[]);
     let a = f.answer;
     let t = f.state;
-    say::answer(a);
-    say::text(b"; ");
-    say::number(t.hint);
-    say::text(b" held, step ");
-    say::number(t.step);
-    say::hex(b", ", bytes::word_at(&hint, 65532), 8);
-    say::hex(b" ", bytes::word_at(&hint, 65536), 8);
-    say::text(b"\n");
+    say::answer(rt, a)?;
+    say::text(rt, "; ")?;
+    say::number(rt, t.hint)?;
+    say::text(rt, " held, step ")?;
+    say::number(rt, t.step)?;
+    say::hex(rt, ", ", bytes::word_at(&hint, 65532), 8)?;
+    say::hex(rt, " ", bytes::word_at(&hint, 65536), 8)?;
+    say::text(rt, "\n")
 }
 
 // 65,537 bytes held are more than the room: 1, and nothing changes. 65,536 are not. The first four bytes are zeros, so the
 // announced length is 0, which is below the rest: all is kept.
-fn held(pages: &mut [u8], used: usize) {
-    say::text(b"65537 hint bytes held: ");
-    write(pages, used, 65537, 0);
-    say::text(b"65536 hint bytes held: ");
-    write(pages, used, 65536, 0);
+fn held(rt: &impl Print, pages: &mut [u8], used: usize) -> io::Result<()> {
+    say::text(rt, "65537 hint bytes held: ")?;
+    write(rt, pages, used, 65537, 0)?;
+    say::text(rt, "65536 hint bytes held: ")?;
+    write(rt, pages, used, 65536, 0)
 }
 
 // One byte more than 65,535 fills the room, with the 'g' that stands at 2000. Two exceed it: 9, and only the step is counted.
-fn written(pages: &mut [u8], used: usize) {
-    say::text(b"65535 held, 1 written: ");
-    write(pages, used, 65535, 1);
-    say::text(b"65535 held, 2 written: ");
-    write(pages, used, 65535, 2);
+fn written(rt: &impl Print, pages: &mut [u8], used: usize) -> io::Result<()> {
+    say::text(rt, "65535 held, 1 written: ")?;
+    write(rt, pages, used, 65535, 1)?;
+    say::text(rt, "65535 held, 2 written: ")?;
+    write(rt, pages, used, 65535, 2)
 }
 
-fn edges(pages: &mut [u8], used: usize) {
-    held(pages, used);
-    written(pages, used);
+fn edges(rt: &impl Print, pages: &mut [u8], used: usize) -> io::Result<()> {
+    held(rt, pages, used)?;
+    written(rt, pages, used)
 }
 
-pub fn all(pages: &mut [u8]) {
+pub fn all(rt: &impl Print, pages: &mut [u8]) -> io::Result<()> {
     let used = Machine::load(pages, &[0x0000_000c]);
     let used = Machine::greeting(pages, used);
-    edges(pages, used);
+    edges(rt, pages, used)
 }

@@ -1,58 +1,42 @@
 // Lines of output.
 use interpreter::step::Answer;
-use libc::STDOUT_FILENO;
+use std::io;
 
-pub fn text(t: &[u8]) {
-    io::write_all(STDOUT_FILENO, t);
+pub fn text(rt: &impl Print, t: &str) -> io::Result<()> {
+    rt.print(t)
 }
 
-pub fn number(n: u64) {
-    io::print_decimal(STDOUT_FILENO, n);
+pub fn number(rt: &impl Print, n: u64) -> io::Result<()> {
+    rt.print(n)
 }
 
-pub fn hex(name: &[u8], n: u64, digits: usize) {
-    text(name);
-    io::print_hex(STDOUT_FILENO, n, digits);
+pub fn hex(rt: &impl Print, name: &str, n: u64, digits: usize) -> io::Result<()> {
+    print!(rt; "{name}{n:0digits$x}")
 }
 
-pub fn yes(name: &[u8], b: bool) {
-    text(name);
-    if b {
-        text(b"yes\n");
-    } else {
-        text(b"no\n");
-    }
+pub fn yes(rt: &impl Print, name: &str, b: bool) -> io::Result<()> {
+    let answer = if b { "yes" } else { "no" };
+    println!(rt; "{name}{answer}")
 }
 
-pub fn answer(a: Answer) {
+pub fn answer(rt: &impl Print, a: Answer) -> io::Result<()> {
     match a {
-        Answer::Stepped => text(b"Stepped"),
-        Answer::Wrote(stream, count) => {
-            text(b"Wrote ");
-            number(count);
-            text(b" to ");
-            number(stream);
-        }
-        Answer::Hint(count) => {
-            text(b"Hint ");
-            number(count);
-        }
-        Answer::Exited(code) => {
-            text(b"Exited ");
-            number(code as u64);
-        }
+        Answer::Stepped => print!(rt; "Stepped"),
+        Answer::Wrote(stream, count) => print!(rt; "Wrote {count} to {stream}"),
+        Answer::Hint(count) => print!(rt; "Hint {count}"),
+        Answer::Exited(code) => print!(rt; "Exited {code}"),
         Answer::Refused(r) => {
-            text(b"Refused ");
-            number(r.number() as u64);
+            let number = r.number();
+            print!(rt; "Refused {number}")
         }
     }
 }
 
 // The first n bytes of a buffer, on a line of their own.
-pub fn front(s: &[u8], n: usize) {
+pub fn front(rt: &impl Print, s: &[u8], n: usize) -> io::Result<()> {
     if s.len() < n {
-        return;
+        return Ok(());
     }
-    text(&s[..n]);
-    text(b"\n");
+    rt.write_all(&s[..n])?;
+    println!(rt; "")
 }

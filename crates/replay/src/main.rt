@@ -1,5 +1,7 @@
 // Replays the fixed lists of whole steps that the unchanged Rust (rules 0) and QEMU (rules 1) made, each by `step`, by a
 // `run` of one and as the second step of a run, and says of each list how many steps differ. compare/README.md says how the lists are made and what their form is.
+#![tactic(auto)]
+
 mod bytes;
 mod machine;
 mod second;
@@ -7,22 +9,13 @@ mod vector;
 
 use crate::machine::Replayed;
 use crate::vector::Front;
-use libc::STDOUT_FILENO;
-
-fn text(t: &[u8]) {
-    io::write_all(STDOUT_FILENO, t);
-}
-
-fn line(name: &[u8], n: u64, what: &[u8]) {
-    text(name);
-    text(b": ");
-    io::print_decimal(STDOUT_FILENO, n);
-    text(what);
-}
+use std::io::Read;
+use std::rt::Files;
+use std::{fs, io};
 
 // How a list went: the steps that are as the judge says, by the kind of their answer, those of them that were the second step
 // of a run too, and the steps that differ.
-#[derive(Drop)]
+#[derive(Clone, Copy)]
 struct Tally {
     stepped: u64,
     wrote: u64,
@@ -35,11 +28,6 @@ struct Tally {
 
 fn more(n: u64) -> u64 {
     std::num::wrapping_add_u64(n, 1)
-}
-
-fn part(n: u64, what: &[u8]) {
-    io::print_decimal(STDOUT_FILENO, n);
-    text(what);
 }
 
 impl Tally {
@@ -71,11 +59,11 @@ impl Tally {
         t
     }
 
-    fn wrong(self, name: &[u8], ordinal: u64) -> Tally {
+    fn wrong(self, rt: &impl Print, name: &str, ordinal: u64) -> io::Result<Tally> {
         let mut t = self;
-        line(name, ordinal, b" differs\n");
+        println!(rt; "{name}: {ordinal} differs")?;
         t.wrong = more(t.wrong);
-        t
+        Ok(t)
     }
 
     fn all(self) -> u64 {
@@ -84,57 +72,81 @@ impl Tally {
         std::num::wrapping_add_u64(std::num::wrapping_add_u64(answered, handed), self.exited)
     }
 
-    fn say(self, name: &[u8]) {
-        line(name, self.all(), b" steps as the judge says (Stepped ");
-        part(self.stepped, b", Wrote ");
-        part(self.wrote, b", Hint ");
-        part(self.hint, b", Exited ");
-        part(self.exited, b", Refused ");
-        part(self.refused, b"), ");
-        part(self.twice, b" also as a run's second, ");
-        part(self.wrong, b" differ\n");
+    fn say(self, rt: &impl Print, name: &str) -> io::Result<()> {
+        let all = self.all();
+        let stepped = self.stepped;
+        let wrote = self.wrote;
+        let hint = self.hint;
+        let exited = self.exited;
+        let refused = self.refused;
+        let twice = self.twice;
+        let wrong = self.wrong;
+        print!(rt; "{name}: {all} steps as the judge says ")?;
+        print!(rt;
+            "(Stepped {stepped}, Wrote {wrote}, Hint {hint}, Exited {exited}, Refused {refused}), "
+        )?;
+        println!(rt; "{twice} also as a run's second, {wrong} differ")
     }
+}
+
+// Fills buf from its front, and answers how many bytes of it were read: all but where the list ends before.
+fn read_full(list: &mut impl Read, buf: &mut [u8]) -> io::Result<usize> {
+    let mut done = 0;
+    while done < buf.len() {
+        let count = list.read(&mut buf[done..])?;
+        if count == 0 {
+            return Ok(done);
+        }
+        done += count;
+    }
+    Ok(done)
 }
 
 // Reads the next vector behind its length to the front of v, and answers how long it is, or 0 where the list is cut
 // short.
-fn next(fd: i32, v: &mut [u8]) -> usize {
+fn next(list: &mut impl Read, v: &mut [u8]) -> io::Result<usize> {
     let mut head = [0u8; 4];
-    let got = io::read_full(fd, &mut head);
+    let got = read_full(list, &mut head)?;
     let size = bytes::number(&head, 0, 4);
     if got != 4 {
-        return 0;
+        return Ok(0);
     }
     if size < 4 {
-        return 0;
+        return Ok(0);
     }
     if v.len() as u64 <= size {
-        return 0;
+        return Ok(0);
     }
     let rest = (size - 4) as usize;
-    if io::read_full(fd, &mut v[..rest]) != rest {
-        return 0;
+    if read_full(list, &mut v[..rest])? != rest {
+        return Ok(0);
     }
-    rest
+    Ok(rest)
 }
 
-fn turn(fd: i32, name: &[u8], v: &mut [u8], t: Tally) -> Tally {
-    let end = next(fd, v);
+fn turn(
+    rt: &impl Print,
+    list: &mut impl Read,
+    name: &str,
+    v: &mut [u8],
+    t: Tally,
+) -> io::Result<Tally> {
+    let end = next(list, v)?;
     let front = Front::read(v);
     if end == 0 {
-        text(b"the list is cut short\n");
-        return t.wrong(name, front.ordinal);
+        println!(rt; "the list is cut short")?;
+        return t.wrong(rt, name, front.ordinal);
     }
     match machine::replay(v, front) {
-        Replayed::Differs => t.wrong(name, front.ordinal),
-        Replayed::Agrees => t.right(front.kind),
-        Replayed::Twice => t.right(front.kind).twice(),
+        Replayed::Differs => t.wrong(rt, name, front.ordinal),
+        Replayed::Agrees => Ok(t.right(front.kind)),
+        Replayed::Twice => Ok(t.right(front.kind).twice()),
     }
 }
 
-fn replay(fd: i32, name: &[u8], v: &mut [u8]) {
+fn replay(rt: &impl Print, list: &mut impl Read, name: &str, v: &mut [u8]) -> io::Result<()> {
     let mut head = [0u8; 12];
-    io::read_full(fd, &mut head);
+    read_full(list, &mut head)?;
     let count = bytes::number(&head, 8, 4);
     let mut tally = Tally {
         stepped: 0,
@@ -146,23 +158,24 @@ fn replay(fd: i32, name: &[u8], v: &mut [u8]) {
         wrong: 0,
     };
     for _ in 0..count {
-        tally = turn(fd, name, v, tally);
+        tally = turn(rt, list, name, v, tally)?;
     }
-    tally.say(name);
+    tally.say(rt, name)
 }
 
-fn list(path: &[u8], name: &[u8]) {
-    let fd = os::open_read(path);
-    if fd < 0 {
-        os::fail(path);
-        return;
-    }
+fn list(rt: &(impl Files + Print + Eprint), path: &str, name: &str) -> io::Result<()> {
+    let mut file = match fs::open(rt, path) {
+        Ok(file) => file,
+        Err(error) => {
+            let _ = eprintln!(rt; "{path}: {error}");
+            return Ok(());
+        }
+    };
     let mut v = [0u8; 8192];
-    replay(fd, name, &mut v);
-    libc::close(fd);
+    replay(rt, &mut file, name, &mut v)
 }
 
-fn main() {
-    list(b"rules0.vec", b"rules 0");
-    list(b"rules1.vec", b"rules 1");
+fn main(rt: HostRuntime) -> io::Result<()> {
+    list(&rt, "rules0.vec", "rules 0")?;
+    list(&rt, "rules1.vec", "rules 1")
 }

@@ -2,7 +2,7 @@
 use crate::bytes;
 
 // The numbers at the front of a vector.
-#[derive(Drop)]
+#[derive(Clone, Copy)]
 pub struct Front {
     pub ordinal: u64,
     pub fill: u8,

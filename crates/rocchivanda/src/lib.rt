@@ -1,4 +1,7 @@
-// The machine and the record checker for C (include/rocchivanda.h). No function asks anything of its arguments.
+// The machine and the record checker on slices and numbers alone. No function asks anything of its arguments.
+// crates/rocchivanda_c exports each for C (include/rocchivanda.h).
+#![tactic(auto)]
+
 ghost use Rattle.std.specs.Prelude.{◌≡◌};
 ghost use Rattle.rocchivanda.specs.Calls.{lent, called, filed, step_call, record_call, run_call, check_call, version};
 
@@ -10,8 +13,7 @@ use checker::verdict::Verdict;
 use interpreter::{layout, record, run, step};
 
 // One step.
-#[unsafe(no_mangle)]
-pub extern "C" fn rocchivanda_step(
+pub fn rocchivanda_step(
     state: &mut [u8],
     pages: &mut [u8],
     hint: &mut [u8],
@@ -36,8 +38,7 @@ pub extern "C" fn rocchivanda_step(
 }
 
 // One step, with its record.
-#[unsafe(no_mangle)]
-pub extern "C" fn rocchivanda_step_recorded(
+pub fn rocchivanda_step_recorded(
     state: &mut [u8],
     pages: &mut [u8],
     hint: &mut [u8],
@@ -63,8 +64,7 @@ pub extern "C" fn rocchivanda_step_recorded(
 }
 
 // Steps until an answer other than Stepped comes, or as many as the budget are made.
-#[unsafe(no_mangle)]
-pub extern "C" fn rocchivanda_run(
+pub fn rocchivanda_run(
     state: &mut [u8],
     pages: &mut [u8],
     hint: &mut [u8],
@@ -91,8 +91,7 @@ pub extern "C" fn rocchivanda_run(
 }
 
 // 0 for an accepted record, or the number of the refusal.
-#[unsafe(no_mangle)]
-pub extern "C" fn rocchivanda_check(record: &[u8]) -> u64
+pub fn rocchivanda_check(record: &[u8]) -> u64
     ensures { result ≡ check_call «record».now }
 {
     let verdict = check::check(record);
@@ -103,8 +102,7 @@ pub extern "C" fn rocchivanda_check(record: &[u8]) -> u64
 }
 
 // The number of this interface.
-#[unsafe(no_mangle)]
-pub extern "C" fn rocchivanda_version() -> u64
+pub fn rocchivanda_version() -> u64
     ensures { result ≡ version }
 {
     1

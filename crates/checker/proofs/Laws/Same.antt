@@ -1,5 +1,5 @@
 -- Two states that are the same in every field are one.
-use mathlib.Core.Path.{◌≡◌, refl, sym, ◌∙◌}
+use mathlib.Core.Path.{◌≡◌, refl, sym, ap, ◌∙◌}
 use mathlib.Core.Bool.{Bool, true, false, not, beq}
 use mathlib.Core.List.{List}
 use Prim.Native.Nat.{ℕ, zero, suc, ◌+◌, ◌≤◌, ◌<◌}
@@ -99,7 +99,11 @@ unfolding same_state state_of cpu_of
 state_is s t a b c d e =
     let n = both e in
     let k = both n.0 in
-    sym (state_parts s) ∙ rw (list_is s.regs t.regs a b k.0, list_is s.key t.key c d k.1, numbers_is (cpu_of s) (cpu_of t) n.1) (state_parts t)
+    sym (state_parts s)
+    ∙ ap (λ (r : List ℕ). state_of (cpu_of s) r s.key) (list_is s.regs t.regs a b k.0)
+    ∙ ap (λ (y : List ℕ). state_of (cpu_of s) t.regs y) (list_is s.key t.key c d k.1)
+    ∙ ap (λ (m : Cpu). state_of m t.regs t.key) (numbers_is (cpu_of s) (cpu_of t) n.1)
+    ∙ state_parts t
 
 pub is_state : (s : State) → same_state s s ≡ true
 unfolding same_state

@@ -23,7 +23,7 @@ use Rattle.interpreter.specs.declared.step.Answer.{Answer}
 use Rattle.interpreter.specs.declared.step.Answer.TheVariants.{Refused as RefusedStep}
 use Rattle.interpreter.specs.Machine.{cpu_of, state_of, counted}
 use Rattle.interpreter.specs.Plan.{Deed, does, eight_at, ins_of, touch_of, executing}
-use Rattle.interpreter.specs.Layout.{eight, decode_at}
+use Rattle.interpreter.specs.Layout.{decode_at}
 use Rattle.interpreter.specs.Ideal.{Ideal, ideal, ideal_view, counting, Outcome, follow, remember}
 use Rattle.interpreter.specs.Runs.{is_refused}
 use Rattle.interpreter.specs.Shown.{shown_at, Outside, effect_shown}
@@ -31,7 +31,7 @@ use Rattle.interpreter.proofs.Laws.Tests.{no_true, both, on}
 use Rattle.interpreter.proofs.Laws.Bytes.{big_lt}
 use Rattle.interpreter.proofs.Laws.Codec.{length_numbers}
 use Rattle.interpreter.proofs.Laws.Recorder.{touched_even}
-use Rattle.interpreter.proofs.Laws.Shown.{write_back, unrefused, pc_aligned}
+use Rattle.interpreter.proofs.Laws.Shown.{write_back, pc_aligned}
 use Rattle.interpreter.proofs.Laws.Narrow.{Narrow, Found, found, shown_same, shown_stops, ideal_fetches, remember_outside, remember_same}
 use Rattle.checker.specs.declared.verdict.Fault.{Fault}
 use Rattle.checker.specs.declared.verdict.Fault.TheVariants.{Length, Form as FormFault, AlreadyExited, StepRefused, WideStep, Touch as TouchFault, Result}

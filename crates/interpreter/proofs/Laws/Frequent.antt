@@ -6,8 +6,8 @@ use Rattle.interpreter.specs.Isa.{opcode_of, funct_of, Instruction}
 use Rattle.interpreter.specs.OpcodeMap.{special, decode_by, decode, accesses}
 use Rattle.interpreter.specs.Effects.{seeing}
 use Rattle.interpreter.specs.Loads.{address_of}
-use Rattle.interpreter.specs.Kernel.{does, touching}
-use Rattle.interpreter.specs.Parts.{Agrees, key_of, Quiet, eight_of, Sees, on_near, Reaches}
+use Rattle.interpreter.specs.Kernel.{does}
+use Rattle.interpreter.specs.Parts.{Agrees, key_of, Quiet, Sees, on_near, Reaches}
 use Rattle.interpreter.specs.declared.effect.Ins.{Ins}
 use Rattle.interpreter.specs.declared.effect.Change.{Change}
 use Rattle.interpreter.specs.declared.effect.Effect.{Effect}

@@ -18,7 +18,7 @@ use Rattle.interpreter.specs.declared.state.State.{State}
 use Rattle.interpreter.specs.declared.record.Seen.{Seen}
 use Rattle.interpreter.specs.declared.linux.Call.{Call}
 use Rattle.interpreter.specs.declared.linux.Call.TheVariants.{Answer as Reply, Heap, Exit, Key, Input, Write, Hint}
-use Rattle.interpreter.specs.Machine.{Machine, machine, reg, cpu_of, state_of, bad}
+use Rattle.interpreter.specs.Machine.{Machine, reg, cpu_of, state_of, bad}
 use Rattle.interpreter.specs.Plan.{eight_at, call_in, ins_of, touch_of}
 use Rattle.interpreter.specs.Step.{Left, refused, advance, step_def, machine_of}
 use Rattle.interpreter.specs.Layout.{encode}

@@ -75,7 +75,7 @@ module _ (c : Cpu) (k : Core) (r : List ℕ) (w y : ℕ) {b : Cpu} {i : Ins} (z1
   unfolding Reaches Agrees seeing
   reach_kernel p u v h a g =
       let x = big 8 (byte_at p u) (eight_of i) in
-      rw (← seeing_is x) (aligned_kernel (seeing i x) (rw (seeing_is x) (ins_pc c k r w x h)) (λ e q. (a e q).0) g)
+      rw (← seeing_is x) (aligned_kernel (seeing i x) (rw ins_is (ins_pc c k r w y h)) (λ e q. (a e q).0) g)
 
   module _ (p : List ℕ) (u : ℕ) (v : Window) {f : Effect} {e : Change} (a : Reaches p u v i f) (g : f ≡ Done e) {o : ℕ} (z : o ≡ address_of i.word i.rs) where
     pub reach_touch : Eight (o / 8 * 8) ≡ touch_of r w

@@ -1,0 +1,23 @@
+use Rattle.interpreter.proofs.Laws.Shown.{reply_made, heap_made, exit_made, key_made, input_made, write_made, hint_made}
+use Rattle.interpreter.proofs.shown.call.Goals as goal
+
+pub returns-in-Answer : goal.returns-in-Answer
+returns-in-Answer c = reply_made _ _ _ _ _ _ c.call_in-called.ensures c.in-Answer.is (c.answered.ensures _ _ _ _ _ _) c.untouching.ensures
+
+pub returns-in-Heap : goal.returns-in-Heap
+returns-in-Heap c = heap_made _ _ _ _ _ c.call_in-called.ensures c.in-Heap.is (c.grown.ensures _ _ _ _ _ _) c.untouching-in-Heap.ensures
+
+pub returns-in-Exit : goal.returns-in-Exit
+returns-in-Exit c = exit_made _ _ _ _ _ c.call_in-called.ensures c.in-Exit.is (c.exited.ensures _ _ _ _ _ _ _) c.untouching-in-Exit.ensures
+
+pub returns-in-Key : goal.returns-in-Key
+returns-in-Key c = key_made _ _ _ _ c.call_in-called.ensures c.in-Key.is c.aligned-a.ensures.0 c.ranges.x.fits (c.keyed_by-n.ensures _ _ _ _ _)
+
+pub returns-in-Input : goal.returns-in-Input
+returns-in-Input c = input_made _ _ _ _ c.call_in-called.ensures c.in-Input.is
+
+pub returns-in-Write : goal.returns-in-Write
+returns-in-Write c = write_made _ _ _ _ _ c.call_in-called.ensures c.in-Write.is
+
+pub returns-in-Hint : goal.returns-in-Hint
+returns-in-Hint c = hint_made _ _ _ _ c.call_in-called.ensures c.in-Hint.is

@@ -1,0 +1,22 @@
+use Rattle.std.proofs.Common.{ap, ◌∙◌, arith}
+use Rattle.pages.specs.Calls.{stored}
+use Rattle.pages.specs.declared.memory.Stored.TheVariants.{Used}
+use Rattle.pages.proofs.Laws.Rooms.{room_inside, set_misaligned, set_room}
+use Rattle.pages.proofs.memory.set_doubleword.Goals as goal
+
+pub returns-then-address-ne0 : goal.returns-then-address-ne0
+returns-then-address-ne0 c = set_misaligned 8 _ _ _ _ c.if-address-ne0.true
+
+pub put_doubleword-requires : goal.put_doubleword-requires
+put_doubleword-requires c = omega (arith, room_inside _ _ _ _ _ _ c.make_room-room.ensures c.in-At.is)
+
+pub returns-in-At : goal.returns-in-At
+returns-in-At c =
+    ap (stored (Used _)) c.put_doubleword.ensures
+    ∙ set_room 8 _ _ _ _ _ (omega arith) c.make_room-room.ensures c.in-At.is
+
+pub returns-in-Full : goal.returns-in-Full
+returns-in-Full c = set_room 8 _ _ _ _ _ (omega arith) c.make_room-room.ensures c.in-Full.is
+
+pub returns-in-Overused : goal.returns-in-Overused
+returns-in-Overused c = set_room 8 _ _ _ _ _ (omega arith) c.make_room-room.ensures c.in-Overused.is
