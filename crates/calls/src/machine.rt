@@ -8,7 +8,7 @@ use interpreter::step::{Answer, Finished};
 use interpreter::{layout, step};
 
 // Where things stand.
-#[derive(Drop)]
+#[derive(Clone, Copy)]
 pub struct Place {
     pub at: usize,
 }
@@ -80,7 +80,7 @@ impl Place {
 const FILL: u8 = 0xee;
 
 // Kinds of answers.
-#[derive(Drop)]
+#[derive(Clone, Copy)]
 pub struct Kind {
     pub number: u64,
 }

@@ -1,6 +1,6 @@
 // The words of a list of cases. A word's number is that of its letters, as text::word reads it.
 
-#[derive(Drop)]
+#[derive(Clone, Copy)]
 pub struct Word {
     pub number: u64,
 }

@@ -10,7 +10,7 @@ use checker::verdict::{Fault, Verdict};
 use interpreter::record::Record;
 
 // The sizes of what is read and written.
-#[derive(Drop)]
+#[derive(Clone, Copy)]
 pub struct Lines {
     pub count: usize,
 }

@@ -12,7 +12,7 @@ use crate::lines::Lines;
 use std::io::Read;
 
 // Whether to go on, and the position of the next record.
-#[derive(Drop)]
+#[derive(Clone, Copy)]
 enum Next {
     On(u64),
     Stop,

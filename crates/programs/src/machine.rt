@@ -3,7 +3,7 @@ use interpreter::state::State;
 use pages::memory;
 use pages::memory::Stored;
 
-#[derive(Drop)]
+#[derive(Clone, Copy)]
 pub struct Machine {
     pub used: usize,
 }

@@ -8,7 +8,7 @@ use interpreter::step::{Answer, Finished};
 use interpreter::{layout, run, step};
 
 // The longest buffers of a list.
-#[derive(Drop)]
+#[derive(Clone, Copy)]
 struct Longest {
     size: usize,
 }
@@ -86,7 +86,7 @@ fn within(n: usize, size: usize) -> usize
 
 // How a vector is replayed: by `step`, by a run of one, which has a quicker way for many instructions, and as the second step of
 // a run.
-#[derive(Drop)]
+#[derive(Clone, Copy)]
 pub enum Way {
     Step,
     Run,
@@ -94,14 +94,14 @@ pub enum Way {
 }
 
 // What a vector's step left, and whether it was the second of a run.
-#[derive(Drop)]
+#[derive(Clone, Copy)]
 struct Made {
     end: Finished,
     second: bool,
 }
 
 // Whether a vector went as the judge says, and as the second step of a run too.
-#[derive(Drop)]
+#[derive(Clone, Copy)]
 pub enum Replayed {
     Differs,
     Agrees,

@@ -7,7 +7,7 @@ use pages::page::{Lookup, Page};
 use pages::{bytes, page};
 
 // Where the word before pc stands, and 0 where there is no such run.
-#[derive(Drop)]
+#[derive(Clone, Copy)]
 pub struct Before {
     pub at: usize,
     pub word: u64,

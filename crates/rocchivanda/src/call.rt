@@ -16,7 +16,7 @@ use interpreter::step::{Answer, Finished};
 use pages::bytes;
 
 // The answer's entries.
-#[derive(Drop)]
+#[derive(Clone, Copy)]
 pub(crate) struct Entries {
     pub at: usize,
 }
