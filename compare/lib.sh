@@ -62,7 +62,7 @@ find_library() {
             exit 1
         fi
         say "proving our machine and writing its static library"
-        (cd "$here/.." && rt staticlib rocchivanda) >&2
+        "$here/../build-library" >&2
         ROCCHIVANDA_LIB=$here/../target/staticlib
     fi
     ROCCHIVANDA_LIB=$(cd "$ROCCHIVANDA_LIB" && pwd)

@@ -1,5 +1,5 @@
-//! Our machine and record checker, called through the C interface of their static library, which
-//! `rt staticlib rocchivanda` writes.
+//! Our machine and record checker, called through the C interface of their static library, which `build-library` at the
+//! top of the repository writes.
 
 use crate::{answer::Answer, checker::record::STEP_RECORD, machine::Machine};
 
