@@ -1,6 +1,7 @@
 /*
  * The machine and the record checker for C. Link target/staticlib/librocchivanda.a, which `./build-library` writes for
- * x86-64 Linux. The library allocates nothing, keeps nothing between calls and calls only memcpy and memset.
+ * x86-64 Linux, on a processor with SSE4.1 (x86-64-v2). The library allocates nothing, keeps nothing between calls and
+ * calls only memcpy and memset.
  *
  * "Document 01" is the paper that fixes every byte, number and order. What each function leaves is proved for every
  * input: crates/rocchivanda/specs/Calls.antt is the promise, and docs/PROMISES.md says it in words.
