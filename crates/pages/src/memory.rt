@@ -29,7 +29,7 @@ impl From<PageError> for LoadError {
 impl fmt::Display for LoadError {
     fn fmt<W: fmt::Write>(&self, f: &mut fmt::Formatter<W>) -> fmt::Result {
         match self {
-            LoadError::Misaligned => write!(f, "misaligned address"),
+            LoadError::Misaligned => write!(f, "misaligned"),
             LoadError::Overused => write!(f, "{}", PageError::Overused),
         }
     }

@@ -39,7 +39,7 @@ pub enum PageError {
 
 impl fmt::Display for PageError {
     fn fmt<W: fmt::Write>(&self, f: &mut fmt::Formatter<W>) -> fmt::Result {
-        write!(f, "more records used than there are")
+        write!(f, "overused")
     }
 }
 
@@ -51,7 +51,7 @@ pub struct NoRecordLeft;
 
 impl fmt::Display for NoRecordLeft {
     fn fmt<W: fmt::Write>(&self, f: &mut fmt::Formatter<W>) -> fmt::Result {
-        write!(f, "no record left for the page")
+        write!(f, "full")
     }
 }
 
