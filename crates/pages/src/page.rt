@@ -81,6 +81,7 @@ impl<'a> Pages<'a> {
     pub fn record_of(&self, number: u64) -> Option<usize>
         ensures { Ok result ≡ lookup self.now.bytes.now self.now.used number }
     {
+        // `chunks_exact` with `position` or `find` is 0.16 to 0.95 times as fast.
         for i in 0..self.used {
             if u64::read(self.bytes, i * Page::RECORD_SIZE) == number {
                 return Some(i);
@@ -122,6 +123,7 @@ pub struct PagesMut<'a> {
 
 impl<'a> PagesMut<'a> {
     /// `fits` tests what it needs.
+    // Not in an `Option` from the test itself: tried, and the goals of who owns it stay open.
     pub fn new(bytes: &'a mut [u8], used: usize) -> PagesMut<'a>
         requires { used ≤ whole bytes.old }
         ensures lent { result.bytes.ghost_name ≡ bytes.entry.ghost_name }

@@ -40,6 +40,7 @@ impl<'a> Pages<'a> {
     {
         let count = buf.len();
         let mut done = 0;
+        // Each turn takes what is left of its page, so `chunks_mut` would need the first page apart.
         while done < count {
             let next = address.wrapping_add(done as u64);
             let n = in_page(next, count - done);
