@@ -49,6 +49,7 @@ fn keeping(i: Ins, n: u64, m: u64) -> Effect
     }
 }
 
+#[tactic(auto, unfolding(crate::specs::Kernel::does, crate::specs::Loads::loaded))]
 pub(crate) fn lb(n: Near) -> Effect
     ensures { result ≡ on_near n (does (load LB)) }
 {
@@ -58,6 +59,7 @@ pub(crate) fn lb(n: Near) -> Effect
     j.to_rt(bits::sext_byte(loads::byte_at(j.mem, offset(j))))
 }
 
+#[tactic(auto, unfolding(crate::specs::Kernel::does, crate::specs::Loads::loaded))]
 pub(crate) fn lbu(n: Near) -> Effect
     ensures { result ≡ on_near n (does (load LBU)) }
 {
@@ -67,6 +69,7 @@ pub(crate) fn lbu(n: Near) -> Effect
     j.to_rt(loads::byte_at(j.mem, offset(j)))
 }
 
+#[tactic(auto, unfolding(crate::specs::Kernel::does, crate::specs::Loads::loaded))]
 pub(crate) fn lh(n: Near) -> Effect
     ensures { result ≡ on_near n (does (load LH)) }
 {
@@ -76,6 +79,7 @@ pub(crate) fn lh(n: Near) -> Effect
     loading(j, 2, bits::sext_half(loads::half_at(j.mem, offset(j))))
 }
 
+#[tactic(auto, unfolding(crate::specs::Kernel::does, crate::specs::Loads::loaded))]
 pub(crate) fn lhu(n: Near) -> Effect
     ensures { result ≡ on_near n (does (load LHU)) }
 {
@@ -85,6 +89,7 @@ pub(crate) fn lhu(n: Near) -> Effect
     loading(j, 2, loads::half_at(j.mem, offset(j)))
 }
 
+#[tactic(auto, unfolding(crate::specs::Kernel::does, crate::specs::Loads::loaded))]
 pub(crate) fn lw(n: Near) -> Effect
     ensures { result ≡ on_near n (does (load LW)) }
 {
@@ -94,6 +99,7 @@ pub(crate) fn lw(n: Near) -> Effect
     loading(j, 4, bits::sext_word(loads::word_at(j.mem, offset(j))))
 }
 
+#[tactic(auto, unfolding(crate::specs::Kernel::does, crate::specs::Loads::loaded))]
 pub(crate) fn lwu(n: Near) -> Effect
     ensures { result ≡ on_near n (does (load LWU)) }
 {
@@ -103,6 +109,7 @@ pub(crate) fn lwu(n: Near) -> Effect
     loading(j, 4, loads::word_at(j.mem, offset(j)))
 }
 
+#[tactic(auto, unfolding(crate::specs::Kernel::does, crate::specs::Loads::loaded))]
 pub(crate) fn ld(n: Near) -> Effect
     ensures { result ≡ on_near n (does (load LD)) }
 {
@@ -112,6 +119,7 @@ pub(crate) fn ld(n: Near) -> Effect
     loading(j, 8, j.mem)
 }
 
+#[tactic(auto, unfolding(crate::specs::Kernel::does, crate::specs::Loads::loaded))]
 pub(crate) fn ldl(n: Near) -> Effect
     ensures { result ≡ on_near n (does (load LDL)) }
 {
@@ -121,6 +129,7 @@ pub(crate) fn ldl(n: Near) -> Effect
     j.to_rt(loads::ldl(j.mem, offset(j), j.rt))
 }
 
+#[tactic(auto, unfolding(crate::specs::Kernel::does, crate::specs::Loads::loaded))]
 pub(crate) fn ldr(n: Near) -> Effect
     ensures { result ≡ on_near n (does (load LDR)) }
 {
@@ -130,6 +139,7 @@ pub(crate) fn ldr(n: Near) -> Effect
     j.to_rt(loads::ldr(j.rules, j.mem, offset(j), j.rt))
 }
 
+#[tactic(auto, unfolding(crate::specs::Kernel::does, crate::specs::Loads::loaded))]
 pub(crate) fn lwl(n: Near) -> Effect
     ensures { result ≡ on_near n (does (load LWL)) }
 {
@@ -139,6 +149,7 @@ pub(crate) fn lwl(n: Near) -> Effect
     j.to_rt(loads::lwl(j.rules, j.mem, offset(j), j.rt))
 }
 
+#[tactic(auto, unfolding(crate::specs::Kernel::does, crate::specs::Loads::loaded))]
 pub(crate) fn lwr(n: Near) -> Effect
     ensures { result ≡ on_near n (does (load LWR)) }
 {
@@ -148,6 +159,7 @@ pub(crate) fn lwr(n: Near) -> Effect
     j.to_rt(loads::lwr(j.rules, j.mem, offset(j), j.rt))
 }
 
+#[tactic(auto, unfolding(crate::specs::Kernel::does, crate::specs::Stores::stored))]
 pub(crate) fn sb(n: Near) -> Effect
     ensures { result ≡ on_near n (does (store SB)) }
 {
@@ -157,6 +169,7 @@ pub(crate) fn sb(n: Near) -> Effect
     j.storing(0, 0, stores::sb(j.mem, offset(j), j.rt))
 }
 
+#[tactic(auto, unfolding(crate::specs::Kernel::does, crate::specs::Stores::stored))]
 pub(crate) fn sh(n: Near) -> Effect
     ensures { result ≡ on_near n (does (store SH)) }
 {
@@ -166,6 +179,7 @@ pub(crate) fn sh(n: Near) -> Effect
     keeping(j, 2, stores::sh(j.mem, offset(j), j.rt))
 }
 
+#[tactic(auto, unfolding(crate::specs::Kernel::does, crate::specs::Stores::stored))]
 pub(crate) fn sw(n: Near) -> Effect
     ensures { result ≡ on_near n (does (store SW)) }
 {
@@ -175,6 +189,7 @@ pub(crate) fn sw(n: Near) -> Effect
     keeping(j, 4, stores::sw(j.mem, offset(j), j.rt))
 }
 
+#[tactic(auto, unfolding(crate::specs::Kernel::does, crate::specs::Stores::stored))]
 pub(crate) fn sd(n: Near) -> Effect
     ensures { result ≡ on_near n (does (store SD)) }
 {
@@ -184,6 +199,7 @@ pub(crate) fn sd(n: Near) -> Effect
     keeping(j, 8, stores::sd(j.rules, j.mem, offset(j), j.rt))
 }
 
+#[tactic(auto, unfolding(crate::specs::Kernel::does, crate::specs::Stores::stored))]
 pub(crate) fn sdl(n: Near) -> Effect
     ensures { result ≡ on_near n (does (store SDL)) }
 {
@@ -193,6 +209,7 @@ pub(crate) fn sdl(n: Near) -> Effect
     j.storing(0, 0, stores::sdl(j.mem, offset(j), j.rt))
 }
 
+#[tactic(auto, unfolding(crate::specs::Kernel::does, crate::specs::Stores::stored))]
 pub(crate) fn sdr(n: Near) -> Effect
     ensures { result ≡ on_near n (does (store SDR)) }
 {
@@ -202,6 +219,7 @@ pub(crate) fn sdr(n: Near) -> Effect
     j.storing(0, 0, stores::sdr(j.mem, offset(j), j.rt))
 }
 
+#[tactic(auto, unfolding(crate::specs::Kernel::does, crate::specs::Stores::stored))]
 pub(crate) fn swl(n: Near) -> Effect
     ensures { result ≡ on_near n (does (store SWL)) }
 {
@@ -211,6 +229,7 @@ pub(crate) fn swl(n: Near) -> Effect
     j.storing(0, 0, stores::swl(j.mem, offset(j), j.rt))
 }
 
+#[tactic(auto, unfolding(crate::specs::Kernel::does, crate::specs::Stores::stored))]
 pub(crate) fn swr(n: Near) -> Effect
     ensures { result ≡ on_near n (does (store SWR)) }
 {

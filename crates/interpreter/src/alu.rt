@@ -10,6 +10,7 @@ use crate::effect::{Ins, Known};
 use crate::isa::{IType, Opcode, RType, Special2Function, SpecialFunction};
 
 // Rules 0 sign-extends the unreduced product.
+#[tactic(auto, unfolding(crate::specs::Alu::shift_left))]
 pub(crate) fn shift_left(rules: u8, x: u64, s: u64) -> u64
     requires { s < 32 }
     ensures { result ≡ shift_left rules x s }
@@ -21,6 +22,7 @@ pub(crate) fn shift_left(rules: u8, x: u64, s: u64) -> u64
     bits::sext_word(p)
 }
 
+#[tactic(auto, unfolding(crate::specs::Alu::shift_right))]
 pub(crate) fn shift_right(x: u64, s: u64) -> u64
     requires { s < 32 }
     ensures { result ≡ shift_right x s }
@@ -28,6 +30,7 @@ pub(crate) fn shift_right(x: u64, s: u64) -> u64
     bits::sext_word((x % 0x1_0000_0000) >> s)
 }
 
+#[tactic(auto, using(crate::proofs::Laws::Words::signed_word))]
 pub(crate) fn shift_signed(x: u64, s: u64) -> u64
     requires { s < 32 }
     ensures { result ≡ shift_signed x s }
@@ -36,6 +39,7 @@ pub(crate) fn shift_signed(x: u64, s: u64) -> u64
 }
 
 // SRAV: rules 0 gives 0 when rs mod 64 = 32.
+#[tactic(auto, unfolding(crate::specs::Alu::shift_signed_by))]
 pub(crate) fn shift_signed_by(rules: u8, x: u64, y: u64) -> u64
     ensures { result ≡ shift_signed_by rules x y }
 {
@@ -48,6 +52,7 @@ pub(crate) fn shift_signed_by(rules: u8, x: u64, y: u64) -> u64
     shift_signed(x, y % 32)
 }
 
+#[tactic(auto, unfolding(crate::specs::Alu::double_left))]
 pub(crate) fn double_left(x: u64, s: u64) -> u64
     requires { s < 64 }
     ensures { result ≡ double_left x s }
@@ -55,6 +60,7 @@ pub(crate) fn double_left(x: u64, s: u64) -> u64
     x << s
 }
 
+#[tactic(auto, unfolding(crate::specs::Alu::double_right))]
 pub(crate) fn double_right(x: u64, s: u64) -> u64
     requires { s < 64 }
     ensures { result ≡ double_right x s }
@@ -62,6 +68,7 @@ pub(crate) fn double_right(x: u64, s: u64) -> u64
     x >> s
 }
 
+#[tactic(auto, using(crate::proofs::Laws::Words::sext_plus), unfolding(crate::specs::Alu::sum))]
 pub(crate) fn sum(x: u64, y: u64) -> u64
     ensures { result ≡ sum x y }
 {
@@ -69,6 +76,7 @@ pub(crate) fn sum(x: u64, y: u64) -> u64
 }
 
 // Rules 0 sign-extends the 64-bit difference.
+#[tactic(auto, unfolding(crate::specs::Alu::difference))]
 pub(crate) fn difference(rules: u8, x: u64, y: u64) -> u64
     ensures { result ≡ difference rules x y }
 {
@@ -79,30 +87,35 @@ pub(crate) fn difference(rules: u8, x: u64, y: u64) -> u64
     bits::sext_word(d)
 }
 
+#[tactic(auto, unfolding(crate::specs::Alu::mul))]
 fn mul(x: u64, y: u64) -> u64
     ensures { result ≡ mul x y }
 {
     bits::sext_word(x % 0x1_0000_0000 * (y % 0x1_0000_0000))
 }
 
+#[tactic(auto, using(crate::proofs::Laws::Bitwise::and_is))]
 pub(crate) fn and(x: u64, y: u64) -> u64
     ensures { result ≡ and x y }
 {
     x & y
 }
 
+#[tactic(auto, using(crate::proofs::Laws::Bitwise::or_is))]
 pub(crate) fn or(x: u64, y: u64) -> u64
     ensures { result ≡ or x y }
 {
     x | y
 }
 
+#[tactic(auto, using(crate::proofs::Laws::Bitwise::xor_is))]
 pub(crate) fn xor(x: u64, y: u64) -> u64
     ensures { result ≡ xor x y }
 {
     x ^ y
 }
 
+#[tactic(auto, unfolding(crate::specs::Alu::nor))]
 pub(crate) fn nor(x: u64, y: u64) -> u64
     ensures { result ≡ nor x y }
 {
@@ -115,12 +128,14 @@ pub(crate) fn flag(b: bool) -> u64
     if b { 1 } else { 0 }
 }
 
+#[tactic(auto, unfolding(crate::specs::Alu::leading_zeros32))]
 fn leading_zeros(x: u64) -> u64
     ensures { result ≡ leading_zeros32 x }
 {
     u32::leading_zeros((x % 0x1_0000_0000) as u32) as u64
 }
 
+#[tactic(auto, unfolding(crate::specs::Alu::leading_ones32))]
 fn leading_ones(x: u64) -> u64
     ensures { result ≡ leading_ones32 x }
 {
@@ -133,6 +148,7 @@ fn double_leading_zeros(x: u64) -> u64
     u64::leading_zeros(x) as u64
 }
 
+#[tactic(auto, unfolding(crate::specs::OpcodeMap::find, crate::specs::OpcodeMap::shifts, crate::specs::Alu::result, crate::specs::Alu::known))]
 pub(crate) fn shifts(i: Ins, f: u64) -> Known
     ensures { result ≡ known (find f shifts) i }
 {
@@ -158,6 +174,7 @@ pub(crate) fn shifts(i: Ins, f: u64) -> Known
 }
 
 // ADD, SUB, DADD and DSUB wrap under both rules, by choice of document 01.
+#[tactic(auto, unfolding(crate::specs::OpcodeMap::find, crate::specs::OpcodeMap::sums, crate::specs::Alu::result, crate::specs::Alu::known))]
 pub(crate) fn sums(i: Ins, f: u64) -> Known
     ensures { result ≡ known (find f sums) i }
 {
@@ -176,6 +193,7 @@ pub(crate) fn sums(i: Ins, f: u64) -> Known
     }
 }
 
+#[tactic(auto, unfolding(crate::specs::OpcodeMap::find, crate::specs::OpcodeMap::logic, crate::specs::Alu::result, crate::specs::Alu::known))]
 pub(crate) fn logic(i: Ins, f: u64) -> Known
     ensures { result ≡ known (find f logic) i }
 {
@@ -190,6 +208,7 @@ pub(crate) fn logic(i: Ins, f: u64) -> Known
     }
 }
 
+#[tactic(auto, unfolding(crate::specs::OpcodeMap::find, crate::specs::OpcodeMap::counts, crate::specs::Alu::result, crate::specs::Alu::known))]
 pub(crate) fn counts(i: Ins, f: u64) -> Known
     ensures { result ≡ known (find f counts) i }
 {
@@ -203,6 +222,7 @@ pub(crate) fn counts(i: Ins, f: u64) -> Known
 }
 
 // ADDI and DADDI wrap under both rules, by choice of document 01.
+#[tactic(auto, unfolding(crate::specs::OpcodeMap::find, crate::specs::OpcodeMap::immediates, crate::specs::Alu::immediate, crate::specs::Alu::known_imm))]
 pub(crate) fn immediate(i: Ins, op: u64) -> Known
     ensures { result ≡ known_imm (find op immediates) i }
 {

@@ -4,6 +4,7 @@ ghost use Rattle.interpreter.specs.Words.{plus, minus, sext, sign_extend, negati
 ghost use Rattle.interpreter.specs.Alu.{double_signed};
 
 // The Rust's sign_extend (utils): any index, counts modulo 64, and every bit from index - 1 up is a sign.
+#[tactic(auto, using(crate::proofs::Laws::Powers::one_shl, crate::proofs::Laws::Powers::pow_small, crate::proofs::Laws::Words::extend_none, crate::proofs::Laws::Words::extend_low, crate::proofs::Laws::Words::extend_high))]
 pub fn sign_extend(x: u64, index: u64) -> u64
     ensures { result ≡ sign_extend x index }
 {
@@ -51,6 +52,7 @@ pub(crate) fn sext_word(x: u64) -> u64
 }
 
 // The arithmetic shift of a doubleword.
+#[tactic(auto, using(crate::proofs::Laws::Words::signed_low, crate::proofs::Laws::Words::signed_high))]
 pub(crate) fn shift_signed(x: u64, s: u64) -> u64
     requires { s < 64 }
     ensures { result ≡ double_signed x s }
@@ -69,6 +71,7 @@ pub(crate) fn negative(x: u64) -> bool
 }
 
 // The signed order, by adding 2^63 to both sides.
+#[tactic(auto, using(crate::proofs::Laws::Words::less_biased))]
 pub(crate) fn less(x: u64, y: u64) -> bool
     ensures { result ≡ less x y }
 {

@@ -11,6 +11,7 @@ use crate::isa::{IType, Opcode, RType, RegImmFunction, SpecialFunction};
 use crate::{alu, bits, branches, hi_lo, loads, stores};
 
 // SPECIAL codes whose result goes to rd.
+#[tactic(auto, using(crate::proofs::Laws::Dispatch::alu_told), unfolding(crate::specs::OpcodeMap::registers, crate::specs::Kernel::does))]
 fn special_registers(i: Ins, f: u64) -> Effect
     ensures { result ≡ does (registers f) i }
 {
@@ -32,6 +33,7 @@ fn special_registers(i: Ins, f: u64) -> Effect
 }
 
 // SPECIAL codes whose result goes to hi and lo.
+#[tactic(auto, unfolding(crate::specs::OpcodeMap::find, crate::specs::OpcodeMap::found, crate::specs::OpcodeMap::hilos, crate::specs::HiLo::hi_lo, crate::specs::Kernel::does))]
 fn special_hi_lo(i: Ins, f: u64) -> Effect
     ensures { result ≡ does (found hilo (find f hilos) (registers f)) i }
 {
@@ -60,6 +62,7 @@ pub(crate) fn move_if(i: Ins, moves: bool) -> Effect
     i.to_register(0, 0)
 }
 
+#[tactic(auto, unfolding(crate::specs::OpcodeMap::find, crate::specs::OpcodeMap::found, crate::specs::OpcodeMap::special, crate::specs::OpcodeMap::jump_registers, crate::specs::OpcodeMap::others, crate::specs::Kernel::jumping, crate::specs::Kernel::does_other, crate::specs::Kernel::does))]
 fn special(i: Ins, f: u64) -> Effect
     ensures { result ≡ does (special f) i }
 {
@@ -74,6 +77,7 @@ fn special(i: Ins, f: u64) -> Effect
     }
 }
 
+#[tactic(auto, using(crate::proofs::Laws::Dispatch::alu_told), unfolding(crate::specs::OpcodeMap::special2, crate::specs::Kernel::does))]
 fn special2(i: Ins, f: u64) -> Effect
     ensures { result ≡ does (special2 f) i }
 {
@@ -85,6 +89,7 @@ fn special2(i: Ins, f: u64) -> Effect
 }
 
 // REGIMM gives 4 before 3.
+#[tactic(auto, unfolding(crate::specs::Kernel::does))]
 fn reserved_branch(i: Ins) -> Effect
     ensures { result ≡ does reserved_branch i }
 {
@@ -95,6 +100,7 @@ fn reserved_branch(i: Ins) -> Effect
 }
 
 // BGEZAL links also when not taken.
+#[tactic(auto, unfolding(crate::specs::OpcodeMap::find, crate::specs::OpcodeMap::found, crate::specs::OpcodeMap::regimm, crate::specs::OpcodeMap::regimms, crate::specs::Kernel::taken, crate::specs::Kernel::branching, crate::specs::Kernel::does))]
 fn regimm(i: Ins, code: u64) -> Effect
     ensures { result ≡ does (regimm code) i }
 {
@@ -108,6 +114,7 @@ fn regimm(i: Ins, code: u64) -> Effect
 }
 
 // Loads and stores.
+#[tactic(auto, using(crate::proofs::Laws::Dispatch::load_told, crate::proofs::Laws::Dispatch::store_told), unfolding(crate::specs::OpcodeMap::memory))]
 fn memory(i: Ins, op: u64) -> Effect
     ensures { result ≡ does (memory op) i }
 {
@@ -126,6 +133,7 @@ fn memory(i: Ins, op: u64) -> Effect
 }
 
 // Codes of the opcode field alone.
+#[tactic(auto, using(crate::proofs::Laws::Dispatch::imm_told, crate::proofs::Laws::Dispatch::past_jumps), unfolding(crate::specs::OpcodeMap::find, crate::specs::OpcodeMap::jumps, crate::specs::OpcodeMap::branches, crate::specs::OpcodeMap::found, crate::specs::OpcodeMap::by_opcode, crate::specs::Kernel::jumping, crate::specs::Kernel::taken, crate::specs::Kernel::branching, crate::specs::Kernel::does))]
 fn by_opcode(i: Ins, op: u64) -> Effect
     ensures { result ≡ does (by_opcode op) i }
 {
@@ -145,6 +153,7 @@ fn by_opcode(i: Ins, op: u64) -> Effect
     }
 }
 
+#[tactic(auto, unfolding(crate::specs::OpcodeMap::decode_by))]
 fn dispatch(i: Ins, op: u64) -> Effect
     ensures { result ≡ does (decode_by op i.word) i }
 {
@@ -157,6 +166,7 @@ fn dispatch(i: Ins, op: u64) -> Effect
 }
 
 // Whether a code of the opcode field is a load or store.
+#[tactic(auto, unfolding(crate::specs::OpcodeMap::find, crate::specs::OpcodeMap::loads, crate::specs::OpcodeMap::stores, crate::specs::OpcodeMap::conditionals, crate::specs::OpcodeMap::accesses))]
 fn accesses(op: u64) -> bool
     ensures { result ≡ accesses op }
 {
@@ -189,6 +199,7 @@ fn accesses(op: u64) -> bool
 }
 
 // The eight bytes that an instruction touches, whose base register holds base.
+#[tactic(auto, using(crate::proofs::Laws::Touches::touches_by), unfolding(crate::specs::Kernel::touch_def))]
 pub fn touch(word: u64, base: u64) -> Touch
     ensures { result ≡ touch_def word base }
 {
@@ -200,6 +211,7 @@ pub fn touch(word: u64, base: u64) -> Touch
 }
 
 // What an instruction does. A misaligned pc comes before everything else.
+#[tactic(auto, unfolding(crate::specs::Kernel::kernel_def))]
 pub fn kernel(i: Ins) -> Effect
     ensures { result ≡ kernel_def i }
 {

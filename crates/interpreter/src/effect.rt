@@ -96,6 +96,7 @@ pub enum Touch {
 
 impl Ins {
     // The same instruction with these eight bytes.
+    #[tactic(auto, unfolding(crate::specs::Effects::seeing))]
     pub(crate) fn seeing(self, mem: u64) -> Ins
         ensures { result ≡ seeing self mem }
     {
@@ -105,6 +106,7 @@ impl Ins {
     }
 
     // Register d gets v, hi and lo become h and l, and the program goes on with the next instruction.
+    #[tactic(auto, unfolding(crate::specs::Effects::changes))]
     pub(crate) fn changes(self, d: u64, v: u64, h: u64, l: u64) -> Effect
         ensures { result ≡ changes self d v h l }
     {
@@ -139,6 +141,7 @@ impl Ins {
     }
 
     // The eight bytes become m, and register d gets v.
+    #[tactic(auto, unfolding(crate::specs::Effects::storing))]
     pub(crate) fn storing(self, d: u64, v: u64, m: u64) -> Effect
         ensures { result ≡ storing self d v m }
     {
@@ -155,6 +158,7 @@ impl Ins {
     }
 
     // A jump or branch to t with its link, refused in a delay slot (handle_jump, handle_branch).
+    #[tactic(auto, unfolding(crate::specs::Effects::going))]
     pub(crate) fn going(self, d: u64, v: u64, t: u64) -> Effect
         ensures { result ≡ going self d v t }
     {
@@ -176,6 +180,7 @@ impl Ins {
 
 impl Refusal {
     // Document 01's number.
+    #[tactic(auto, unfolding(crate::specs::Effects::refusal_number))]
     pub fn number(self) -> u8
         ensures { result ≡ refusal_number self }
     {

@@ -81,6 +81,7 @@ fn special(i: Ins, key: u64) -> Effect
 }
 
 // REGIMM.
+#[tactic(auto, using(crate::proofs::Laws::Frequent::agrees_same, crate::proofs::Laws::Frequent::agrees_call), unfolding(crate::specs::OpcodeMap::find, crate::specs::OpcodeMap::found, crate::specs::OpcodeMap::regimm, crate::specs::OpcodeMap::regimms, crate::specs::Kernel::taken, crate::specs::Kernel::branching, crate::specs::Kernel::does))]
 fn regimm(i: Ins, code: u64) -> Effect
     ensures { Agrees result (does (regimm code) i) }
 {
@@ -92,6 +93,7 @@ fn regimm(i: Ins, code: u64) -> Effect
 }
 
 // The change that an instruction makes, where it is one of these and touches no memory.
+#[tactic(auto, using(crate::proofs::Laws::Frequent::agrees_same, crate::proofs::Laws::Frequent::agrees_as, crate::proofs::Laws::Frequent::quiet_op), unfolding(crate::specs::OpcodeMap::find, crate::specs::OpcodeMap::found, crate::specs::OpcodeMap::is_some, crate::specs::OpcodeMap::accesses, crate::specs::OpcodeMap::decode_by, crate::specs::OpcodeMap::by_opcode, crate::specs::OpcodeMap::memory, crate::specs::OpcodeMap::jumps, crate::specs::OpcodeMap::branches, crate::specs::OpcodeMap::immediates, crate::specs::OpcodeMap::loads, crate::specs::OpcodeMap::stores, crate::specs::OpcodeMap::conditionals, crate::specs::Alu::immediate, crate::specs::Kernel::taken, crate::specs::Kernel::branching, crate::specs::Kernel::jumping, crate::specs::Kernel::does))]
 pub(crate) fn plain(i: Ins, key: u64) -> Effect
     requires { key ≡ key_of i.word }
     ensures { Quiet result i }
@@ -168,6 +170,7 @@ pub(crate) fn kept(i: Ins, w: Window, pages: &[u8], used: usize, key: u64) -> Ef
 }
 
 // A load or store of an instruction that has its eight bytes.
+#[tactic(auto, using(crate::proofs::Laws::Frequent::agrees_same, crate::proofs::Laws::Frequent::agrees_call), unfolding(crate::specs::OpcodeMap::find, crate::specs::OpcodeMap::found, crate::specs::OpcodeMap::decode_by, crate::specs::OpcodeMap::by_opcode, crate::specs::OpcodeMap::memory, crate::specs::OpcodeMap::jumps, crate::specs::OpcodeMap::branches, crate::specs::OpcodeMap::immediates, crate::specs::OpcodeMap::loads, crate::specs::OpcodeMap::stores))]
 pub(crate) fn elsewhere(i: Ins, op: u64) -> Effect
     ensures { Agrees result (does (decode_by op i.word) i) }
 {

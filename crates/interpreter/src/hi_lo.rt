@@ -30,6 +30,7 @@ fn negative_word(w: u64) -> bool
     0x8000_0000 <= w
 }
 
+#[tactic(auto, using(crate::proofs::Laws::Signed::magnitude_high, crate::proofs::Laws::Signed::magnitude_low))]
 fn magnitude_word(w: u64) -> u64
     requires { w < 2 ^ 32 }
     ensures { result ≡ magnitude 32 w }
@@ -41,6 +42,7 @@ fn magnitude_word(w: u64) -> u64
     }
 }
 
+#[tactic(auto, using(crate::proofs::Laws::Signed::magnitude_high, crate::proofs::Laws::Signed::magnitude_low))]
 fn magnitude_doubleword(x: u64) -> u64
     ensures { result ≡ magnitude 64 x }
 {
@@ -51,6 +53,7 @@ fn magnitude_doubleword(x: u64) -> u64
     }
 }
 
+#[tactic(auto, unfolding(crate::specs::Words::signed))]
 fn signed_doubleword(s: bool, m: u64) -> u64
     ensures { result ≡ signed 64 s m }
 {
@@ -61,6 +64,7 @@ fn signed_doubleword(s: bool, m: u64) -> u64
     }
 }
 
+#[tactic(auto, using(crate::proofs::Laws::Signed::product_le), unfolding(crate::specs::HiLo::mult, crate::specs::Words::product))]
 pub(crate) fn mult(x: u64, y: u64) -> Pair
     ensures { result ≡ mult x y }
 {
@@ -70,6 +74,7 @@ pub(crate) fn mult(x: u64, y: u64) -> Pair
     words(signed_doubleword(negative_word(a) != negative_word(b), m))
 }
 
+#[tactic(auto, unfolding(crate::specs::HiLo::multu))]
 pub(crate) fn multu(x: u64, y: u64) -> Pair
     ensures { result ≡ multu x y }
 {
@@ -77,6 +82,7 @@ pub(crate) fn multu(x: u64, y: u64) -> Pair
 }
 
 // 128 bits by four 32-bit halves.
+#[tactic(auto, using(crate::proofs::Laws::Products::by_columns), unfolding(crate::specs::HiLo::dmultu))]
 pub(crate) fn dmultu(x: u64, y: u64) -> Pair
     ensures { result ≡ dmultu x y }
 {
@@ -94,6 +100,7 @@ pub(crate) fn dmultu(x: u64, y: u64) -> Pair
 }
 
 // The negative of 128 bits.
+#[tactic(auto, using(crate::proofs::Laws::Products::negated_none, crate::proofs::Laws::Products::negated_some))]
 fn negate(p: Pair) -> Pair
     ensures { result ≡ negated p }
 {
@@ -110,6 +117,7 @@ fn negate(p: Pair) -> Pair
 }
 
 // Rules 0 is unsigned.
+#[tactic(auto, using(crate::proofs::Laws::Products::product_minus, crate::proofs::Laws::Products::product_plus), unfolding(crate::specs::HiLo::dmult))]
 pub(crate) fn dmult(rules: u8, x: u64, y: u64) -> Pair
     ensures { result ≡ dmult rules x y }
 {
@@ -140,6 +148,7 @@ pub(crate) fn div(x: u64, y: u64) -> Pair
 }
 
 // Rules 0 doesn't sign-extend.
+#[tactic(auto, unfolding(crate::specs::HiLo::divu))]
 pub(crate) fn divu(rules: u8, x: u64, y: u64) -> Pair
     requires { 0 < word y }
     ensures { result ≡ divu rules x y }
@@ -155,6 +164,7 @@ pub(crate) fn divu(rules: u8, x: u64, y: u64) -> Pair
     }
 }
 
+#[tactic(auto, using(crate::proofs::Laws::Signed::magnitude_pos), unfolding(crate::specs::HiLo::ddiv, crate::specs::Words::remainder, crate::specs::Words::quotient))]
 pub(crate) fn ddiv(x: u64, y: u64) -> Pair
     requires { 0 < y }
     ensures { result ≡ ddiv x y }
@@ -168,6 +178,7 @@ pub(crate) fn ddiv(x: u64, y: u64) -> Pair
     }
 }
 
+#[tactic(auto, unfolding(crate::specs::HiLo::ddivu))]
 pub(crate) fn ddivu(x: u64, y: u64) -> Pair
     requires { 0 < y }
     ensures { result ≡ ddivu x y }
@@ -179,6 +190,7 @@ pub(crate) fn ddivu(x: u64, y: u64) -> Pair
 }
 
 // The least number by -1, which only rules 0 refuses.
+#[tactic(auto, unfolding(crate::specs::HiLo::overflows))]
 fn word_overflows(rules: u8, x: u64, y: u64) -> bool
     ensures { result ≡ overflows 32 rules x y }
 {
@@ -191,6 +203,7 @@ fn word_overflows(rules: u8, x: u64, y: u64) -> bool
     y == 0xffff_ffff
 }
 
+#[tactic(auto, unfolding(crate::specs::HiLo::overflows))]
 fn overflows(rules: u8, x: u64, y: u64) -> bool
     ensures { result ≡ overflows 64 rules x y }
 {
@@ -214,6 +227,7 @@ impl Ins {
         self.changes(0, 0, p.hi, p.lo)
     }
 
+    #[tactic(auto, unfolding(crate::specs::HiLo::hi_lo))]
     pub(crate) fn divide_words(self) -> Effect
         ensures { result ≡ hi_lo DIV self }
     {
@@ -228,6 +242,7 @@ impl Ins {
         self.to_hi_lo(div(self.rs, self.rt))
     }
 
+    #[tactic(auto, unfolding(crate::specs::HiLo::hi_lo))]
     pub(crate) fn divide_words_unsigned(self) -> Effect
         ensures { result ≡ hi_lo DIVU self }
     {
@@ -237,6 +252,7 @@ impl Ins {
         self.to_hi_lo(divu(self.rules, self.rs, self.rt))
     }
 
+    #[tactic(auto, unfolding(crate::specs::HiLo::hi_lo))]
     pub(crate) fn divide(self) -> Effect
         ensures { result ≡ hi_lo DDIV self }
     {
@@ -249,6 +265,7 @@ impl Ins {
         self.to_hi_lo(ddiv(self.rs, self.rt))
     }
 
+    #[tactic(auto, unfolding(crate::specs::HiLo::hi_lo))]
     pub(crate) fn divide_unsigned(self) -> Effect
         ensures { result ≡ hi_lo DDIVU self }
     {

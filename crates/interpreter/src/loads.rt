@@ -29,6 +29,7 @@ pub(crate) fn word_at(m: u64, o: u64) -> u64
 }
 
 // Rules 0 always uses bytes 4 to 7.
+#[tactic(auto, using(crate::proofs::Laws::Loads::lwl_low, crate::proofs::Laws::Loads::lwl_word))]
 pub(crate) fn lwl(rules: u8, m: u64, o: u64, t: u64) -> u64
     requires { o < 8 }
     ensures { result ≡ lwl rules m o t }
@@ -42,6 +43,7 @@ pub(crate) fn lwl(rules: u8, m: u64, o: u64, t: u64) -> u64
 }
 
 // Rules 0 shifts the whole doubleword, so that bytes before the word come in above.
+#[tactic(auto, using(crate::proofs::Laws::Loads::lwr_or, crate::proofs::Laws::Loads::lwr_word))]
 pub(crate) fn lwr(rules: u8, m: u64, o: u64, t: u64) -> u64
     requires { o < 8 }
     ensures { result ≡ lwr rules m o t }
@@ -64,6 +66,7 @@ pub(crate) fn ldl(m: u64, o: u64, t: u64) -> u64
 }
 
 // At offset 7 rules 0 ors memory with rt.
+#[tactic(auto, using(crate::proofs::Laws::Loads::ldr_fits, crate::proofs::Laws::Loads::ldr_or, crate::proofs::Laws::Loads::ldr_all, crate::proofs::Laws::Loads::ldr_part))]
 pub(crate) fn ldr(rules: u8, m: u64, o: u64, t: u64) -> u64
     requires { o < 8 }
     ensures { result ≡ ldr rules m o t }
@@ -79,6 +82,7 @@ pub(crate) fn ldr(rules: u8, m: u64, o: u64, t: u64) -> u64
 }
 
 // An access of n bytes: rules 1 refuses it off its alignment.
+#[tactic(auto, unfolding(crate::specs::Loads::aligned))]
 pub(crate) fn aligned(i: Ins, n: u64, v: u64) -> Outcome
     requires { 0 < n }
     ensures { result ≡ aligned i n v }
@@ -99,6 +103,7 @@ impl Ins {
     }
 }
 
+#[tactic(auto, unfolding(crate::specs::OpcodeMap::find, crate::specs::OpcodeMap::loads, crate::specs::Loads::loaded, crate::specs::Loads::loaded_by))]
 pub(crate) fn load(i: Ins, op: u64) -> Outcome
     ensures { result ≡ loaded_by (find op loads) i }
 {

@@ -52,6 +52,7 @@ pub(crate) fn sd(rules: u8, m: u64, o: u64, t: u64) -> u64
     t
 }
 
+#[tactic(auto, using(crate::proofs::Laws::Stores::swl_is))]
 pub(crate) fn swl(m: u64, o: u64, t: u64) -> u64
     requires { o < 8 }
     ensures { result ≡ swl m o t }
@@ -63,6 +64,7 @@ pub(crate) fn swl(m: u64, o: u64, t: u64) -> u64
 }
 
 // Rules 0 does not cut what is pushed out of the lower word.
+#[tactic(auto, using(crate::proofs::Laws::Stores::swr_or, crate::proofs::Laws::Stores::swr_upper, crate::proofs::Laws::Stores::swr_cut))]
 pub(crate) fn swr(rules: u8, m: u64, o: u64, t: u64) -> u64
     requires { o < 8 }
     ensures { result ≡ swr rules m o t }
@@ -79,6 +81,7 @@ pub(crate) fn swr(rules: u8, m: u64, o: u64, t: u64) -> u64
     stored
 }
 
+#[tactic(auto, using(crate::proofs::Laws::Stores::sdl_fits, crate::proofs::Laws::Stores::sdl_all, crate::proofs::Laws::Stores::sdl_part))]
 pub(crate) fn sdl(m: u64, o: u64, t: u64) -> u64
     requires { o < 8 }
     ensures { result ≡ sdl m o t }
@@ -91,6 +94,7 @@ pub(crate) fn sdl(m: u64, o: u64, t: u64) -> u64
     (m >> size << size) + (t >> down)
 }
 
+#[tactic(auto, using(crate::proofs::Laws::Shifts::raised_lt, crate::proofs::Laws::Stores::sdr_is))]
 pub(crate) fn sdr(m: u64, o: u64, t: u64) -> u64
     requires { o < 8 }
     ensures { result ≡ sdr m o t }
@@ -99,18 +103,21 @@ pub(crate) fn sdr(m: u64, o: u64, t: u64) -> u64
     (t << up) + m % (1u64 << up)
 }
 
+#[tactic(auto, unfolding(crate::specs::Stores::stored))]
 fn store_word(i: Ins) -> Outcome
     ensures { result ≡ stored SW i }
 {
     loads::aligned(i, 4, sw(i.mem, i.address() % 8, i.rt))
 }
 
+#[tactic(auto, unfolding(crate::specs::Stores::stored))]
 fn store_doubleword(i: Ins) -> Outcome
     ensures { result ≡ stored SD i }
 {
     loads::aligned(i, 8, sd(i.rules, i.mem, i.address() % 8, i.rt))
 }
 
+#[tactic(auto, unfolding(crate::specs::OpcodeMap::find, crate::specs::OpcodeMap::stores, crate::specs::Stores::stored, crate::specs::Stores::stored_by))]
 pub(crate) fn store(i: Ins, op: u64) -> Outcome
     ensures { result ≡ stored_by (find op stores) i }
 {
@@ -155,6 +162,7 @@ fn answering(i: Ins, stored: Outcome) -> Effect
     }
 }
 
+#[tactic(auto, unfolding(crate::specs::OpcodeMap::find, crate::specs::OpcodeMap::found, crate::specs::OpcodeMap::conditionals, crate::specs::Stores::conditionally, crate::specs::Kernel::does))]
 pub(crate) fn conditional(i: Ins, op: u64) -> Effect
     ensures { result ≡ does (found conditional (find op conditionals) reserved) i }
 {
