@@ -5,7 +5,7 @@ ghost use Rattle.interpreter.specs.Isa.{DIV, DIVU, DDIV, DDIVU};
 ghost use Rattle.interpreter.specs.HiLo.{words, negated, mult, multu, dmult, dmultu, div, divu, ddiv, ddivu, overflows, to_hi_lo, hi_lo};
 
 use crate::bits;
-use crate::effect::{Effect, Ins, Refusal};
+use crate::effect::{Change, Effect, Ins, Refusal, Stop};
 use crate::isa::RType;
 
 #[derive(Clone, Copy)]
@@ -218,7 +218,7 @@ fn overflows(rules: u8, x: u64, y: u64) -> bool
 
 impl Ins {
     // Rules 0 writes 0 to rd as well.
-    pub(crate) fn to_hi_lo(self, p: Pair) -> Effect
+    pub(crate) fn to_hi_lo(self, p: Pair) -> Change
         ensures { result ≡ to_hi_lo self p }
     {
         if self.rules == 0 {
@@ -234,12 +234,12 @@ impl Ins {
         let x = self.rs % 0x1_0000_0000;
         let y = self.rt % 0x1_0000_0000;
         if y == 0 {
-            return Effect::Refused(Refusal::DivideByZero);
+            return Err(Stop::Refused(Refusal::DivideByZero));
         }
         if word_overflows(self.rules, x, y) {
-            return Effect::Refused(Refusal::Overflow);
+            return Err(Stop::Refused(Refusal::Overflow));
         }
-        self.to_hi_lo(div(self.rs, self.rt))
+        Ok(self.to_hi_lo(div(self.rs, self.rt)))
     }
 
     #[tactic(auto, unfolding(crate::specs::HiLo::hi_lo))]
@@ -247,9 +247,9 @@ impl Ins {
         ensures { result ≡ hi_lo DIVU self }
     {
         if self.rt % 0x1_0000_0000 == 0 {
-            return Effect::Refused(Refusal::DivideByZero);
+            return Err(Stop::Refused(Refusal::DivideByZero));
         }
-        self.to_hi_lo(divu(self.rules, self.rs, self.rt))
+        Ok(self.to_hi_lo(divu(self.rules, self.rs, self.rt)))
     }
 
     #[tactic(auto, unfolding(crate::specs::HiLo::hi_lo))]
@@ -257,12 +257,12 @@ impl Ins {
         ensures { result ≡ hi_lo DDIV self }
     {
         if self.rt == 0 {
-            return Effect::Refused(Refusal::DivideByZero);
+            return Err(Stop::Refused(Refusal::DivideByZero));
         }
         if overflows(self.rules, self.rs, self.rt) {
-            return Effect::Refused(Refusal::Overflow);
+            return Err(Stop::Refused(Refusal::Overflow));
         }
-        self.to_hi_lo(ddiv(self.rs, self.rt))
+        Ok(self.to_hi_lo(ddiv(self.rs, self.rt)))
     }
 
     #[tactic(auto, unfolding(crate::specs::HiLo::hi_lo))]
@@ -270,8 +270,8 @@ impl Ins {
         ensures { result ≡ hi_lo DDIVU self }
     {
         if self.rt == 0 {
-            return Effect::Refused(Refusal::DivideByZero);
+            return Err(Stop::Refused(Refusal::DivideByZero));
         }
-        self.to_hi_lo(ddivu(self.rs, self.rt))
+        Ok(self.to_hi_lo(ddivu(self.rs, self.rt)))
     }
 }

@@ -1,11 +1,10 @@
 // Loads as functions of the aligned eight bytes m, the offset o in them, and t, the value of rt.
 ghost use Rattle.std.specs.Prelude.{◌≡◌, ◌^◌, ◌<◌};
-ghost use Rattle.interpreter.specs.OpcodeMap.{find, loads};
-ghost use Rattle.interpreter.specs.Loads.{address_of, aligned, byte_at, half_at, word_at, lwl, lwr, ldl, ldr, loaded_by};
+ghost use Rattle.interpreter.specs.Loads.{address_of, aligned, byte_at, half_at, word_at, lwl, lwr, ldl, ldr};
 
 use crate::bits;
-use crate::effect::{Ins, Outcome, Refusal};
-use crate::isa::{IType, Opcode};
+use crate::effect::{Ins, Refusal};
+use crate::isa::IType;
 
 pub(crate) fn byte_at(m: u64, o: u64) -> u64
     requires { o < 8 }
@@ -83,16 +82,16 @@ pub(crate) fn ldr(rules: u8, m: u64, o: u64, t: u64) -> u64
 
 // An access of n bytes: rules 1 refuses it off its alignment.
 #[tactic(auto, unfolding(crate::specs::Loads::aligned))]
-pub(crate) fn aligned(i: Ins, n: u64, v: u64) -> Outcome
+pub(crate) fn aligned(i: Ins, n: u64, v: u64) -> Result<u64, Refusal>
     requires { 0 < n }
     ensures { result ≡ aligned i n v }
 {
     if i.rules != 0 {
         if i.address() % n != 0 {
-            return Outcome::Trapped(Refusal::AddressError);
+            return Err(Refusal::AddressError);
         }
     }
-    Outcome::Value(v)
+    Ok(v)
 }
 
 impl Ins {
@@ -100,29 +99,5 @@ impl Ins {
         ensures { result ≡ address_of self.word self.rs }
     {
         bits::plus(self.rs, bits::sext_half(IType::decode(self.word).imm))
-    }
-}
-
-#[tactic(auto, unfolding(crate::specs::OpcodeMap::find, crate::specs::OpcodeMap::loads, crate::specs::Loads::loaded, crate::specs::Loads::loaded_by))]
-pub(crate) fn load(i: Ins, op: u64) -> Outcome
-    ensures { result ≡ loaded_by (find op loads) i }
-{
-    let m = i.mem;
-    let o = i.address() % 8;
-    match op {
-        Opcode::LDL => Outcome::Value(ldl(m, o, i.rt)),
-        Opcode::LDR => Outcome::Value(ldr(i.rules, m, o, i.rt)),
-        Opcode::LB => Outcome::Value(bits::sext_byte(byte_at(m, o))),
-        Opcode::LH => aligned(i, 2, bits::sext_half(half_at(m, o))),
-        Opcode::LWL => Outcome::Value(lwl(i.rules, m, o, i.rt)),
-        Opcode::LW => aligned(i, 4, bits::sext_word(word_at(m, o))),
-        Opcode::LBU => Outcome::Value(byte_at(m, o)),
-        Opcode::LHU => aligned(i, 2, half_at(m, o)),
-        Opcode::LWR => Outcome::Value(lwr(i.rules, m, o, i.rt)),
-        Opcode::LWU => aligned(i, 4, word_at(m, o)),
-        Opcode::LL => aligned(i, 4, bits::sext_word(word_at(m, o))),
-        Opcode::LLD => aligned(i, 8, m),
-        Opcode::LD => aligned(i, 8, m),
-        _ => Outcome::Unknown,
     }
 }
