@@ -1,5 +1,5 @@
 -- What an instruction does: it is refused, it is a system call, or it changes this.
-use Rattle.std.specs.Prelude.{ℕ, cond, ◌==◌, Option, Some, None, Result, Ok, Err}
+use Rattle.std.specs.Prelude.{ℕ, cond, ◌==◌, Some, None, Result, Ok, Err}
 use Rattle.interpreter.specs.Words.{plus}
 use Rattle.interpreter.specs.Isa.{rd_of, rt_of}
 use Rattle.interpreter.specs.declared.effect.Ins.{Ins}

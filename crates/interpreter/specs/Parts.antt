@@ -36,7 +36,7 @@ use Rattle.interpreter.specs.Effects.{Effect, seeing}
 use Rattle.interpreter.specs.Loads.{address_of}
 use Rattle.interpreter.specs.Kernel.{does, touching}
 use Rattle.interpreter.specs.Machine.{Machine, machine, reg, set_reg, changed, counted, room_of, bad}
-use Rattle.interpreter.specs.Plan.{Store, keeps, stores, eight_at, storing, call_in, calling, touch_of, executing}
+use Rattle.interpreter.specs.Plan.{eight_at, storing, call_in, calling, touch_of, executing}
 use Rattle.interpreter.specs.Ideal.{ideal, ideal_view, remember}
 use Rattle.interpreter.specs.Recording.{call_wide, call_touch, wide, touched, memory_of, state_in, Recorded, recorded}
 use Rattle.interpreter.specs.Shown.{shown_at, Shown, shown, made_by}

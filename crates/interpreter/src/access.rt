@@ -38,7 +38,7 @@ fn keeping(i: Ins, n: u64, m: u64) -> Effect
 pub(crate) fn lb(i: Ins) -> Effect
     ensures { result ≡ does (load LB) i }
 {
-    Ok(i.to_rt(bits::sext_byte(loads::byte_at(i.mem, offset(i)))))
+    Ok(i.to_rt(bits::sext::<8>(loads::byte_at(i.mem, offset(i)))))
 }
 
 pub(crate) fn lbu(i: Ins) -> Effect
@@ -50,7 +50,7 @@ pub(crate) fn lbu(i: Ins) -> Effect
 pub(crate) fn lh(i: Ins) -> Effect
     ensures { result ≡ does (load LH) i }
 {
-    loading(i, 2, bits::sext_half(loads::half_at(i.mem, offset(i))))
+    loading(i, 2, bits::sext::<16>(loads::half_at(i.mem, offset(i))))
 }
 
 pub(crate) fn lhu(i: Ins) -> Effect
@@ -62,7 +62,7 @@ pub(crate) fn lhu(i: Ins) -> Effect
 pub(crate) fn lw(i: Ins) -> Effect
     ensures { result ≡ does (load LW) i }
 {
-    loading(i, 4, bits::sext_word(loads::word_at(i.mem, offset(i))))
+    loading(i, 4, bits::sext::<32>(loads::word_at(i.mem, offset(i))))
 }
 
 pub(crate) fn lwu(i: Ins) -> Effect

@@ -19,7 +19,7 @@ pub(crate) fn shift_left(rules: u8, x: u64, s: u64) -> u64
     if rules == 0 {
         return bits::sign_extend(p, 32);
     }
-    bits::sext_word(p)
+    bits::sext::<32>(p)
 }
 
 #[tactic(auto, unfolding(crate::specs::Alu::shift_right))]
@@ -27,7 +27,7 @@ pub(crate) fn shift_right(x: u64, s: u64) -> u64
     requires { s < 32 }
     ensures { result ≡ shift_right x s }
 {
-    bits::sext_word((x % 0x1_0000_0000) >> s)
+    bits::sext::<32>((x % 0x1_0000_0000) >> s)
 }
 
 #[tactic(auto, using(crate::proofs::Laws::Words::signed_word))]
@@ -35,7 +35,7 @@ pub(crate) fn shift_signed(x: u64, s: u64) -> u64
     requires { s < 32 }
     ensures { result ≡ shift_signed x s }
 {
-    bits::shift_signed(bits::sext_word(x), s)
+    bits::shift_signed(bits::sext::<32>(x), s)
 }
 
 // SRAV: rules 0 gives 0 when rs mod 64 = 32.
@@ -72,7 +72,7 @@ pub(crate) fn double_right(x: u64, s: u64) -> u64
 pub(crate) fn sum(x: u64, y: u64) -> u64
     ensures { result ≡ sum x y }
 {
-    bits::sext_word(bits::plus(x, y))
+    bits::sext::<32>(bits::plus(x, y))
 }
 
 // Rules 0 sign-extends the 64-bit difference.
@@ -84,14 +84,14 @@ pub(crate) fn difference(rules: u8, x: u64, y: u64) -> u64
     if rules == 0 {
         return bits::sign_extend(d, 32);
     }
-    bits::sext_word(d)
+    bits::sext::<32>(d)
 }
 
 #[tactic(auto, unfolding(crate::specs::Alu::mul))]
 fn mul(x: u64, y: u64) -> u64
     ensures { result ≡ mul x y }
 {
-    bits::sext_word(x % 0x1_0000_0000 * (y % 0x1_0000_0000))
+    bits::sext::<32>(x % 0x1_0000_0000 * (y % 0x1_0000_0000))
 }
 
 #[tactic(auto, using(crate::proofs::Laws::Bitwise::and_is))]
@@ -227,7 +227,7 @@ pub(crate) fn immediate(i: Ins, op: u64) -> Option<u64>
     ensures { result ≡ known_imm (find op immediates) i }
 {
     let imm = IType::decode(i.word).imm;
-    let wide = bits::sext_half(imm);
+    let wide = bits::sext::<16>(imm);
     match op {
         Opcode::ADDI => Some(sum(i.rs, wide)),
         Opcode::ADDIU => Some(sum(i.rs, wide)),
@@ -236,7 +236,7 @@ pub(crate) fn immediate(i: Ins, op: u64) -> Option<u64>
         Opcode::ANDI => Some(and(i.rs, imm)),
         Opcode::ORI => Some(or(i.rs, imm)),
         Opcode::XORI => Some(xor(i.rs, imm)),
-        Opcode::LUI => Some(bits::sext_word(imm * 0x1_0000)),
+        Opcode::LUI => Some(bits::sext::<32>(imm * 0x1_0000)),
         Opcode::DADDI => Some(bits::plus(i.rs, wide)),
         Opcode::DADDIU => Some(bits::plus(i.rs, wide)),
         _ => None,

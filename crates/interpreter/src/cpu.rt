@@ -98,7 +98,7 @@ fn reserved_branch(i: Ins) -> Effect
 fn regimm(i: Ins, code: u64) -> Effect
     ensures { result ≡ does (regimm code) i }
 {
-    let below = bits::negative(i.rs);
+    let below = bits::negative::<64>(i.rs);
     match code {
         RegImmFunction::BLTZ => i.branch(0, 0, below),
         RegImmFunction::BGEZ => i.branch(0, 0, !below),
@@ -230,7 +230,7 @@ pub fn touch(word: u64, base: u64) -> Touch
     ensures { result ≡ touch_def word base }
 {
     if accesses(Opcode::decode(word)) {
-        let address = bits::plus(base, bits::sext_half(IType::decode(word).imm));
+        let address = bits::plus(base, bits::sext::<16>(IType::decode(word).imm));
         return Touch::Eight(address / 8 * 8);
     }
     Touch::Nothing

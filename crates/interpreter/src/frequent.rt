@@ -30,7 +30,7 @@ fn imm(i: Ins) -> u64
 fn wide(i: Ins) -> u64
     ensures { result ≡ sext 16 (imm_of i.word) }
 {
-    bits::sext_half(imm(i))
+    bits::sext::<16>(imm(i))
 }
 
 // SPECIAL. Each arm computes what it needs, so that the jump by the table comes first; so everywhere here. The compiler makes one
@@ -84,8 +84,8 @@ fn regimm(i: Ins, code: u64) -> Option<Change>
     ensures { Agrees result (does (regimm code) i) }
 {
     match code {
-        RegImmFunction::BLTZ => i.branch(0, 0, bits::negative(i.rs)).ok(),
-        RegImmFunction::BGEZ => i.branch(0, 0, !bits::negative(i.rs)).ok(),
+        RegImmFunction::BLTZ => i.branch(0, 0, bits::negative::<64>(i.rs)).ok(),
+        RegImmFunction::BGEZ => i.branch(0, 0, !bits::negative::<64>(i.rs)).ok(),
         _ => None,
     }
 }
@@ -111,7 +111,7 @@ pub(crate) fn plain(i: Ins, key: u64) -> Option<Change>
         Opcode::ANDI => Some(i.to_rt(alu::and(i.rs, imm(i)))),
         Opcode::ORI => Some(i.to_rt(alu::or(i.rs, imm(i)))),
         Opcode::XORI => Some(i.to_rt(alu::xor(i.rs, imm(i)))),
-        Opcode::LUI => Some(i.to_rt(bits::sext_word(imm(i) * 0x1_0000))),
+        Opcode::LUI => Some(i.to_rt(bits::sext::<32>(imm(i) * 0x1_0000))),
         _ => special(i, key),
     }
 }

@@ -1,5 +1,5 @@
 // Results to hi and lo.
-ghost use Rattle.std.specs.Prelude.{◌≡◌, ◌^◌, ◌<◌};
+ghost use Rattle.std.specs.Prelude.{◌≡◌, ◌^◌, ◌<◌, ◌≤◌};
 ghost use Rattle.interpreter.specs.Words.{word, magnitude, signed, negative};
 ghost use Rattle.interpreter.specs.Isa.{DIV, DIVU, DDIV, DDIVU};
 ghost use Rattle.interpreter.specs.HiLo.{words, negated, mult, multu, dmult, dmultu, div, divu, ddiv, ddivu, overflows, to_hi_lo, hi_lo};
@@ -19,38 +19,18 @@ fn words(p: u64) -> Pair
     ensures { result ≡ words p }
 {
     Pair {
-        hi: bits::sext_word(p / 0x1_0000_0000),
-        lo: bits::sext_word(p),
+        hi: bits::sext::<32>(p / 0x1_0000_0000),
+        lo: bits::sext::<32>(p),
     }
 }
 
-fn negative_word(w: u64) -> bool
-    ensures { result ≡ negative 32 w }
+// The distance from 0 of a number of N bits.
+fn magnitude<const N: u64>(x: u64) -> u64
+    requires { (0 < N) × (N ≤ 64) × (x < 2 ^ N) }
+    ensures { result ≡ magnitude N x }
 {
-    0x8000_0000 <= w
-}
-
-#[tactic(auto, using(crate::proofs::Laws::Signed::magnitude_high, crate::proofs::Laws::Signed::magnitude_low))]
-fn magnitude_word(w: u64) -> u64
-    requires { w < 2 ^ 32 }
-    ensures { result ≡ magnitude 32 w }
-{
-    if 0x8000_0000 <= w {
-        0x1_0000_0000 - w
-    } else {
-        w
-    }
-}
-
-#[tactic(auto, using(crate::proofs::Laws::Signed::magnitude_high, crate::proofs::Laws::Signed::magnitude_low))]
-fn magnitude_doubleword(x: u64) -> u64
-    ensures { result ≡ magnitude 64 x }
-{
-    if 0x8000_0000_0000_0000 <= x {
-        u64::MAX - x + 1
-    } else {
-        x
-    }
+    let sign = 1u64 << (N - 1);
+    if sign <= x { sign - (x - sign) } else { x }
 }
 
 #[tactic(auto, unfolding(crate::specs::Words::signed))]
@@ -70,8 +50,8 @@ pub(crate) fn mult(x: u64, y: u64) -> Pair
 {
     let a = x % 0x1_0000_0000;
     let b = y % 0x1_0000_0000;
-    let m = magnitude_word(a) * magnitude_word(b);
-    words(signed_doubleword(negative_word(a) != negative_word(b), m))
+    let m = magnitude::<32>(a) * magnitude::<32>(b);
+    words(signed_doubleword(bits::negative::<32>(a) != bits::negative::<32>(b), m))
 }
 
 #[tactic(auto, unfolding(crate::specs::HiLo::multu))]
@@ -124,8 +104,8 @@ pub(crate) fn dmult(rules: u8, x: u64, y: u64) -> Pair
     if rules == 0 {
         return dmultu(x, y);
     }
-    let p = dmultu(magnitude_doubleword(x), magnitude_doubleword(y));
-    if bits::negative(x) != bits::negative(y) {
+    let p = dmultu(magnitude::<64>(x), magnitude::<64>(y));
+    if bits::negative::<64>(x) != bits::negative::<64>(y) {
         negate(p)
     } else {
         p
@@ -138,12 +118,12 @@ pub(crate) fn div(x: u64, y: u64) -> Pair
 {
     let a = x % 0x1_0000_0000;
     let b = y % 0x1_0000_0000;
-    let m = magnitude_word(a);
-    let n = magnitude_word(b);
-    let s = negative_word(a);
+    let m = magnitude::<32>(a);
+    let n = magnitude::<32>(b);
+    let s = bits::negative::<32>(a);
     Pair {
-        hi: bits::sext_word(signed_doubleword(s, m % n)),
-        lo: bits::sext_word(signed_doubleword(s != negative_word(b), m / n)),
+        hi: bits::sext::<32>(signed_doubleword(s, m % n)),
+        lo: bits::sext::<32>(signed_doubleword(s != bits::negative::<32>(b), m / n)),
     }
 }
 
@@ -159,8 +139,8 @@ pub(crate) fn divu(rules: u8, x: u64, y: u64) -> Pair
         return Pair { hi: r, lo: q };
     }
     Pair {
-        hi: bits::sext_word(r),
-        lo: bits::sext_word(q),
+        hi: bits::sext::<32>(r),
+        lo: bits::sext::<32>(q),
     }
 }
 
@@ -169,12 +149,12 @@ pub(crate) fn ddiv(x: u64, y: u64) -> Pair
     requires { 0 < y }
     ensures { result ≡ ddiv x y }
 {
-    let m = magnitude_doubleword(x);
-    let n = magnitude_doubleword(y);
-    let s = bits::negative(x);
+    let m = magnitude::<64>(x);
+    let n = magnitude::<64>(y);
+    let s = bits::negative::<64>(x);
     Pair {
         hi: signed_doubleword(s, m % n),
-        lo: signed_doubleword(s != bits::negative(y), m / n),
+        lo: signed_doubleword(s != bits::negative::<64>(y), m / n),
     }
 }
 
@@ -189,31 +169,19 @@ pub(crate) fn ddivu(x: u64, y: u64) -> Pair
     }
 }
 
-// The least number by -1, which only rules 0 refuses.
-#[tactic(auto, unfolding(crate::specs::HiLo::overflows))]
-fn word_overflows(rules: u8, x: u64, y: u64) -> bool
-    ensures { result ≡ overflows 32 rules x y }
+// The least number of N bits by -1, which only rules 0 refuses.
+fn overflows<const N: u64>(rules: u8, x: u64, y: u64) -> bool
+    requires { (0 < N) × (N ≤ 64) }
+    ensures { result ≡ overflows N rules x y }
 {
     if rules != 0 {
         return false;
     }
-    if x != 0x8000_0000 {
+    let least = 1u64 << (N - 1);
+    if x != least {
         return false;
     }
-    y == 0xffff_ffff
-}
-
-#[tactic(auto, unfolding(crate::specs::HiLo::overflows))]
-fn overflows(rules: u8, x: u64, y: u64) -> bool
-    ensures { result ≡ overflows 64 rules x y }
-{
-    if rules != 0 {
-        return false;
-    }
-    if x != 0x8000_0000_0000_0000 {
-        return false;
-    }
-    y == u64::MAX
+    y == least - 1 + least
 }
 
 impl Ins {
@@ -236,7 +204,7 @@ impl Ins {
         if y == 0 {
             return Err(Stop::Refused(Refusal::DivideByZero));
         }
-        if word_overflows(self.rules, x, y) {
+        if overflows::<32>(self.rules, x, y) {
             return Err(Stop::Refused(Refusal::Overflow));
         }
         Ok(self.to_hi_lo(div(self.rs, self.rt)))
@@ -259,7 +227,7 @@ impl Ins {
         if self.rt == 0 {
             return Err(Stop::Refused(Refusal::DivideByZero));
         }
-        if overflows(self.rules, self.rs, self.rt) {
+        if overflows::<64>(self.rules, self.rs, self.rt) {
             return Err(Stop::Refused(Refusal::Overflow));
         }
         Ok(self.to_hi_lo(ddiv(self.rs, self.rt)))

@@ -6,6 +6,7 @@ use crate::bits;
 use crate::effect::{Ins, Refusal};
 use crate::isa::IType;
 
+// A function for each size: over the size n the shift is 64 - 8 * n - 8 * (o / n * n), which is no plainer, here and in stores.rt.
 pub(crate) fn byte_at(m: u64, o: u64) -> u64
     requires { o < 8 }
     ensures { result ≡ byte_at m o }
@@ -36,9 +37,9 @@ pub(crate) fn lwl(rules: u8, m: u64, o: u64, t: u64) -> u64
     let up = 8 * (o % 4);
     let low = t % (1u64 << up);
     if rules == 0 {
-        return bits::sext_word((m << up) % 0x1_0000_0000 + low);
+        return bits::sext::<32>((m << up) % 0x1_0000_0000 + low);
     }
-    bits::sext_word((word_at(m, o) << up) % 0x1_0000_0000 + low)
+    bits::sext::<32>((word_at(m, o) << up) % 0x1_0000_0000 + low)
 }
 
 // Rules 0 shifts the whole doubleword, so that bytes before the word come in above.
@@ -51,9 +52,9 @@ pub(crate) fn lwr(rules: u8, m: u64, o: u64, t: u64) -> u64
     let size = 8 * (o % 4) + 8;
     let kept = (t % 0x1_0000_0000) >> size << size;
     if rules == 0 {
-        return bits::sext_word((m >> down) % 0x1_0000_0000 | kept);
+        return bits::sext::<32>((m >> down) % 0x1_0000_0000 | kept);
     }
-    bits::sext_word(kept + (word_at(m, o) >> down))
+    bits::sext::<32>(kept + (word_at(m, o) >> down))
 }
 
 pub(crate) fn ldl(m: u64, o: u64, t: u64) -> u64
@@ -98,6 +99,6 @@ impl Ins {
     pub(crate) fn address(self) -> u64
         ensures { result ≡ address_of self.word self.rs }
     {
-        bits::plus(self.rs, bits::sext_half(IType::decode(self.word).imm))
+        bits::plus(self.rs, bits::sext::<16>(IType::decode(self.word).imm))
     }
 }

@@ -1,6 +1,5 @@
 use Rattle.std.proofs.Common.{◌+◌, ◌-◌, ◌*◌, arith}
 use Rattle.interpreter.proofs.Laws.Shifts.{raised_lt}
-use Rattle.interpreter.proofs.Laws.Stores.{sdr_is}
 use Rattle.interpreter.proofs.stores.sdr.Goals as goal
 
 pub overflow_add-result : goal.overflow_add-result
