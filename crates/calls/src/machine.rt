@@ -200,7 +200,7 @@ fn put_answer(m: &mut [u8], a: Answer) {
         Answer::Wrote(stream, count) => answer(m, Kind::WROTE, stream, count),
         Answer::Hint(count) => answer(m, Kind::HINT, count, 0),
         Answer::Exited(code) => answer(m, Kind::EXITED, code as u64, 0),
-        Answer::Refused(r) => answer(m, Kind::REFUSED, r.number() as u64, 0),
+        Answer::Refused(r) => answer(m, Kind::REFUSED, u8::from(r) as u64, 0),
     }
 }
 

@@ -1,9 +1,9 @@
 -- The checker (document 01, "The step record"): its refusals 21 to 27, each with its condition.
-use Rattle.std.specs.Prelude.{ℕ, ◌+◌, ◌*◌, ◌/◌, ◌%◌, Bool, true, false, ◌&&◌, not, cond, List, [], ◌∷◌, eqb, length}
+use Rattle.std.specs.Prelude.{ℕ, ◌+◌, ◌*◌, ◌/◌, ◌%◌, Bool, true, false, ◌&&◌, not, cond, List, [], ◌∷◌, eqb, length, Ok, Err}
 use Rattle.std.specs.Bool.{beq}
 use Rattle.pages.specs.Bytes.{cell, big}
-use Rattle.interpreter.specs.declared.effect.Effect.{Effect}
-use Rattle.interpreter.specs.declared.effect.Effect.TheVariants.{Refused as RefusedBy, Call as CallBy, Done}
+use Rattle.interpreter.specs.Effects.{Effect}
+use Rattle.interpreter.specs.declared.effect.Stop.TheVariants.{Refused as RefusedBy, Call as CallBy}
 use Rattle.interpreter.specs.declared.effect.Touch.{Touch}
 use Rattle.interpreter.specs.declared.effect.Touch.TheVariants.{Nothing, Eight}
 use Rattle.interpreter.specs.declared.state.Cpu.{Cpu}
@@ -34,9 +34,9 @@ exited_in r = (old_in r).exited
 
 -- 24: the step is refused 2 to 7
 abbrev pub refuses : Effect → Bool
-refuses (RefusedBy n) = true
-refuses CallBy = false
-refuses (Done e) = false
+refuses (Err (RefusedBy n)) = true
+refuses (Err CallBy) = false
+refuses (Ok e) = false
 
 unfoldable pub refused_in : List ℕ → Bool
 refused_in r = refuses (effect_in r)

@@ -2,7 +2,7 @@
 use Rattle.std.specs.Prelude.{ℕ, List}
 use Rattle.pages.specs.Bytes.{cell, big}
 use Rattle.pages.specs.Memory.{Memory}
-use Rattle.interpreter.specs.declared.effect.Effect.{Effect}
+use Rattle.interpreter.specs.Effects.{Effect}
 use Rattle.interpreter.specs.declared.effect.Touch.{Touch}
 use Rattle.interpreter.specs.declared.state.State.{State}
 use Rattle.interpreter.specs.Machine.{cpu_of}

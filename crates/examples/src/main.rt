@@ -2,7 +2,7 @@
 // stdout has document 01's numbers.
 #![tactic(auto)]
 
-use interpreter::effect::{Change, Effect, Ins};
+use interpreter::effect::{Change, Ins, Stop};
 use interpreter::{bits, cpu};
 use std::io;
 
@@ -17,7 +17,7 @@ enum Part {
     Value,
     Hi,
     Lo,
-    Mem,
+    Stored,
 }
 
 fn value_of(c: Change, p: Part) -> u64 {
@@ -25,19 +25,18 @@ fn value_of(c: Change, p: Part) -> u64 {
         Part::Value => c.value,
         Part::Hi => c.hi,
         Part::Lo => c.lo,
-        Part::Mem => c.mem,
+        Part::Stored => c.store.unwrap_or(0),
     }
 }
 
 fn show(rt: &impl Print, i: Ins, p: Part) -> io::Result<()> {
-    let effect = cpu::kernel(i);
-    match effect {
-        Effect::Refused(r) => {
-            let number = r.number();
+    match cpu::kernel(i) {
+        Err(Stop::Refused(r)) => {
+            let number = u8::from(r);
             print!(rt; "refused {number}")
         }
-        Effect::Call => print!(rt; "call"),
-        Effect::Done(c) => {
+        Err(Stop::Call) => print!(rt; "call"),
+        Ok(c) => {
             let value = value_of(c, p);
             print!(rt; "0x{value:016x}")
         }
@@ -151,7 +150,7 @@ fn memory(rt: &impl Print) -> io::Result<()> {
         0,
         0x1122_3344,
         0,
-        Part::Mem,
+        Part::Stored,
     )
 }
 

@@ -1,12 +1,9 @@
 -- Results of registers and immediates, an instruction a line.
-use Rattle.std.specs.Prelude.{ℕ, ◌+◌, ◌-◌, ◌*◌, ◌/◌, ◌%◌, ◌^◌, cond, ◌==◌, nat_lt}
-use Rattle.std.proofs.Math.Option.{Option, some, none}
+use Rattle.std.specs.Prelude.{ℕ, ◌+◌, ◌-◌, ◌*◌, ◌/◌, ◌%◌, ◌^◌, cond, ◌==◌, nat_lt, Option, Some, None}
 use Rattle.std.specs.Int.Count.{count_leading_zeros}
 use Rattle.interpreter.specs.Words.{by_rules, word, plus, minus, sext, sign_extend, bit, less, and, or, xor}
 use Rattle.interpreter.specs.Isa.{shamt_of, imm_of, Alu, SLL, SRL, SRA, SLLV, SRLV, SRAV, DSLL, DSRL, DSRA, DSLL32, DSRL32, DSRA32, DSLLV, DSRLV, DSRAV, ADD, ADDU, SUB, SUBU, DADD, DADDU, DSUB, DSUBU, AND, OR, XOR, NOR, SLT, SLTU, MFHI, MFLO, MUL, CLZ, CLO, DCLZ, Imm, ADDI, ADDIU, SLTI, SLTIU, ANDI, ORI, XORI, LUI, DADDI, DADDIU}
 use Rattle.interpreter.specs.declared.effect.Ins.{Ins}
-use Rattle.interpreter.specs.declared.effect.Known.{Known}
-use Rattle.interpreter.specs.declared.effect.Known.TheVariants.{Value, Unknown}
 
 -- ---- shifts of the low word by s, below 32; right shifts never rotate
 
@@ -112,10 +109,10 @@ immediate DADDI i = plus i.rs (sext 16 (imm_of i.word))
 immediate DADDIU i = plus i.rs (sext 16 (imm_of i.word))
 
 -- a group's answer to a code: the result of what was found
-unfoldable pub known : Option Alu → Ins → Known
-known (some a) i = Value (result a i)
-known none i = Unknown
+unfoldable pub known : Option Alu → Ins → Option ℕ
+known (Some a) i = Some (result a i)
+known None i = None
 
-unfoldable pub known_imm : Option Imm → Ins → Known
-known_imm (some a) i = Value (immediate a i)
-known_imm none i = Unknown
+unfoldable pub known_imm : Option Imm → Ins → Option ℕ
+known_imm (Some a) i = Some (immediate a i)
+known_imm None i = None

@@ -1,10 +1,11 @@
 -- What an instruction does: it is refused, it is a system call, or it changes this.
-use Rattle.std.specs.Prelude.{ℕ, true, false, cond, ◌==◌}
+use Rattle.std.specs.Prelude.{ℕ, cond, ◌==◌, Some, None, Result, Ok, Err}
 use Rattle.interpreter.specs.Words.{plus}
 use Rattle.interpreter.specs.Isa.{rd_of, rt_of}
 use Rattle.interpreter.specs.declared.effect.Ins.{Ins}
-use Rattle.interpreter.specs.declared.effect.Effect.{Effect}
-use Rattle.interpreter.specs.declared.effect.Effect.TheVariants.{Refused, Done}
+use Rattle.interpreter.specs.declared.effect.Change.{Change}
+use Rattle.interpreter.specs.declared.effect.Stop.{Stop}
+use Rattle.interpreter.specs.declared.effect.Stop.TheVariants.{Refused}
 use Rattle.interpreter.specs.declared.effect.Refusal.{Refusal}
 use Rattle.interpreter.specs.declared.effect.Refusal.TheVariants.{BadMachine, PcMisaligned, Reserved, DelaySlot, DivideByZero, Overflow, AddressError, MemoryFull, NoRoom, NoInput, InputOffset, HintShort, HintText}
 
@@ -24,31 +25,35 @@ refusal_number InputOffset = 11
 refusal_number HintShort = 12
 refusal_number HintText = 13
 
+-- what changes, or why an instruction by itself changes nothing
+abbrev pub Effect : Type 0
+Effect = Result Change Stop
+
 -- the same instruction with the eight bytes m
 unfoldable pub seeing : Ins → ℕ → Ins
 seeing i m = record { rules = i.rules; word = i.word; rs = i.rs; rt = i.rt; pc = i.pc; next = i.next; hi = i.hi; lo = i.lo; mem = m }
 
 -- register d gets v, hi and lo become h and l, and the program goes on with the next instruction
-unfoldable pub changes : Ins → ℕ → ℕ → ℕ → ℕ → Effect
-changes i d v h l = Done (record { dest = d; value = v; pc = i.next; next = plus i.next 4; hi = h; lo = l; store = false; mem = i.mem })
+unfoldable pub changes : Ins → ℕ → ℕ → ℕ → ℕ → Change
+changes i d v h l = record { dest = d; value = v; pc = i.next; next = plus i.next 4; hi = h; lo = l; store = None }
 
-abbrev pub to_register : Ins → ℕ → ℕ → Effect
+abbrev pub to_register : Ins → ℕ → ℕ → Change
 to_register i d v = changes i d v i.hi i.lo
 
-abbrev pub to_rd : Ins → ℕ → Effect
+abbrev pub to_rd : Ins → ℕ → Change
 to_rd i v = to_register i (rd_of i.word) v
 
-abbrev pub to_rt : Ins → ℕ → Effect
+abbrev pub to_rt : Ins → ℕ → Change
 to_rt i v = to_register i (rt_of i.word) v
 
 -- the eight bytes become m, and register d gets v
-unfoldable pub storing : Ins → ℕ → ℕ → ℕ → Effect
-storing i d v m = Done (record { dest = d; value = v; pc = i.next; next = plus i.next 4; hi = i.hi; lo = i.lo; store = true; mem = m })
+unfoldable pub storing : Ins → ℕ → ℕ → ℕ → Change
+storing i d v m = record { dest = d; value = v; pc = i.next; next = plus i.next 4; hi = i.hi; lo = i.lo; store = Some m }
 
 -- a jump or branch: register d gets the link, and after the instruction in the delay slot the program goes on at t.
 -- It is refused in a delay slot itself
 unfoldable pub going : Ins → ℕ → ℕ → ℕ → Effect
 going i d v t =
     cond (i.next == plus i.pc 4)
-    (Done (record { dest = d; value = v; pc = i.next; next = t; hi = i.hi; lo = i.lo; store = false; mem = i.mem }))
-    (Refused DelaySlot)
+    (Ok (record { dest = d; value = v; pc = i.next; next = t; hi = i.hi; lo = i.lo; store = None }))
+    (Err (Refused DelaySlot))

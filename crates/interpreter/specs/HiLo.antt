@@ -1,11 +1,11 @@
 -- Results to hi and lo, an instruction a line.
-use Rattle.std.specs.Prelude.{ℕ, ◌+◌, ◌-◌, ◌*◌, ◌/◌, ◌%◌, ◌^◌, Bool, cond, ◌&&◌, ◌==◌}
+use Rattle.std.specs.Prelude.{ℕ, ◌+◌, ◌-◌, ◌*◌, ◌/◌, ◌%◌, ◌^◌, Bool, cond, ◌&&◌, ◌==◌, Ok, Err}
 use Rattle.interpreter.specs.Words.{by_rules, word, sext, quotient, remainder, product}
 use Rattle.interpreter.specs.Isa.{rd_of, HiLo, MTHI, MTLO, MULT, MULTU, DMULT, DMULTU, DIV, DIVU, DDIV, DDIVU}
-use Rattle.interpreter.specs.Effects.{changes}
+use Rattle.interpreter.specs.Effects.{Effect, changes}
 use Rattle.interpreter.specs.declared.effect.Ins.{Ins}
-use Rattle.interpreter.specs.declared.effect.Effect.{Effect}
-use Rattle.interpreter.specs.declared.effect.Effect.TheVariants.{Refused}
+use Rattle.interpreter.specs.declared.effect.Change.{Change}
+use Rattle.interpreter.specs.declared.effect.Stop.TheVariants.{Refused}
 use Rattle.interpreter.specs.declared.effect.Refusal.TheVariants.{DivideByZero, Overflow}
 use Rattle.interpreter.specs.declared.hi_lo.Pair.{Pair}
 
@@ -58,24 +58,24 @@ overflows n rules x y = rules == 0 && (x == 2 ^ (n - 1) && y == 2 ^ n - 1)
 -- ---- effects
 
 -- rules 0 writes 0 to rd as well, rules 1 no register
-abbrev pub to_hi_lo : Ins → Pair → Effect
+abbrev pub to_hi_lo : Ins → Pair → Change
 to_hi_lo i p = changes i (by_rules i.rules (rd_of i.word) 0) 0 p.hi p.lo
 
 -- a division of x by y: 5, then 6
 abbrev pub dividing : ℕ → Ins → ℕ → ℕ → Pair → Effect
 dividing n i x y p =
-    cond (y == 0) (Refused DivideByZero)
-    (cond (overflows n i.rules x y) (Refused Overflow)
-    (to_hi_lo i p))
+    cond (y == 0) (Err (Refused DivideByZero))
+    (cond (overflows n i.rules x y) (Err (Refused Overflow))
+    (Ok (to_hi_lo i p)))
 
 unfoldable pub hi_lo : HiLo → Ins → Effect
-hi_lo MTHI i = to_hi_lo i (pair i.rs i.lo)
-hi_lo MTLO i = to_hi_lo i (pair i.hi i.rs)
-hi_lo MULT i = to_hi_lo i (mult i.rs i.rt)
-hi_lo MULTU i = to_hi_lo i (multu i.rs i.rt)
-hi_lo DMULT i = to_hi_lo i (dmult i.rules i.rs i.rt)
-hi_lo DMULTU i = to_hi_lo i (dmultu i.rs i.rt)
+hi_lo MTHI i = Ok (to_hi_lo i (pair i.rs i.lo))
+hi_lo MTLO i = Ok (to_hi_lo i (pair i.hi i.rs))
+hi_lo MULT i = Ok (to_hi_lo i (mult i.rs i.rt))
+hi_lo MULTU i = Ok (to_hi_lo i (multu i.rs i.rt))
+hi_lo DMULT i = Ok (to_hi_lo i (dmult i.rules i.rs i.rt))
+hi_lo DMULTU i = Ok (to_hi_lo i (dmultu i.rs i.rt))
 hi_lo DIV i = dividing 32 i (word i.rs) (word i.rt) (div i.rs i.rt)
-hi_lo DIVU i = cond (word i.rt == 0) (Refused DivideByZero) (to_hi_lo i (divu i.rules i.rs i.rt))
+hi_lo DIVU i = cond (word i.rt == 0) (Err (Refused DivideByZero)) (Ok (to_hi_lo i (divu i.rules i.rs i.rt)))
 hi_lo DDIV i = dividing 64 i i.rs i.rt (ddiv i.rs i.rt)
-hi_lo DDIVU i = cond (i.rt == 0) (Refused DivideByZero) (to_hi_lo i (ddivu i.rs i.rt))
+hi_lo DDIVU i = cond (i.rt == 0) (Err (Refused DivideByZero)) (Ok (to_hi_lo i (ddivu i.rs i.rt)))

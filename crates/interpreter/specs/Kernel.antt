@@ -1,18 +1,17 @@
 -- The kernel: what each instruction does, and which eight bytes it touches.
-use Rattle.std.specs.Prelude.{ℕ, ◌+◌, ◌*◌, ◌/◌, ◌%◌, ◌^◌, Bool, cond, not, ◌||◌, ◌==◌}
+use Rattle.std.specs.Prelude.{ℕ, ◌+◌, ◌*◌, ◌/◌, ◌%◌, ◌^◌, Bool, cond, not, ◌||◌, ◌==◌, Result, Ok, Err}
 use Rattle.interpreter.specs.Words.{plus, negative, sext}
 use Rattle.interpreter.specs.Isa.{rd_of, imm_of, target_of, Branch, BEQ, BNE, BLEZ, BGTZ, BLTZ, BGEZ, BGEZAL, Jump, J, JAL, JR, JALR, Instruction, alu, imm, hilo, load, store, conditional, branch, jump, Other, MOVZ, MOVN, SYNC, SYSCALL, other, reserved, reserved_branch}
 use Rattle.interpreter.specs.OpcodeMap.{decode}
-use Rattle.interpreter.specs.Effects.{to_register, to_rd, to_rt, storing, going}
+use Rattle.interpreter.specs.Effects.{Effect, to_register, to_rd, to_rt, storing, going}
 use Rattle.interpreter.specs.Alu.{result, immediate}
 use Rattle.interpreter.specs.HiLo.{hi_lo}
 use Rattle.interpreter.specs.Loads.{address_of, loaded}
 use Rattle.interpreter.specs.Stores.{stored, conditionally}
 use Rattle.interpreter.specs.declared.effect.Ins.{Ins}
-use Rattle.interpreter.specs.declared.effect.Effect.{Effect}
-use Rattle.interpreter.specs.declared.effect.Effect.TheVariants.{Refused, Call}
-use Rattle.interpreter.specs.declared.effect.Outcome.{Outcome}
-use Rattle.interpreter.specs.declared.effect.Outcome.TheVariants.{Value, Trapped, Unknown}
+use Rattle.interpreter.specs.declared.effect.Change.{Change}
+use Rattle.interpreter.specs.declared.effect.Stop.TheVariants.{Refused, Call}
+use Rattle.interpreter.specs.declared.effect.Refusal.{Refusal}
 use Rattle.interpreter.specs.declared.effect.Refusal.TheVariants.{PcMisaligned, Reserved, DelaySlot}
 use Rattle.interpreter.specs.declared.effect.Touch.{Touch}
 use Rattle.interpreter.specs.declared.effect.Touch.TheVariants.{Nothing, Eight}
@@ -61,22 +60,21 @@ jumping JALR i = going i (rd_of i.word) (link i) i.rs
 
 -- ---- every instruction
 
--- what follows an outcome
-abbrev pub after : (ℕ → Effect) → Outcome → Effect
-after f (Value v) = f v
-after f (Trapped t) = Refused t
-after f Unknown = Refused Reserved
+-- what a load or store changes, where it is not refused
+abbrev pub after : (ℕ → Change) → Result ℕ Refusal → Effect
+after f (Ok v) = Ok (f v)
+after f (Err n) = Err (Refused n)
 
 -- SYNC: rules 0 writes rs to rd, rules 1 no register. SYSCALL is the step's to execute
 unfoldable pub does_other : Other → Ins → Effect
-does_other MOVZ i = cond (i.rt == 0) (to_rd i i.rs) (to_register i 0 0)
-does_other MOVN i = cond (not (i.rt == 0)) (to_rd i i.rs) (to_register i 0 0)
-does_other SYNC i = cond (i.rules == 0) (to_rd i i.rs) (to_register i 0 0)
-does_other SYSCALL i = Call
+does_other MOVZ i = Ok (cond (i.rt == 0) (to_rd i i.rs) (to_register i 0 0))
+does_other MOVN i = Ok (cond (not (i.rt == 0)) (to_rd i i.rs) (to_register i 0 0))
+does_other SYNC i = Ok (cond (i.rules == 0) (to_rd i i.rs) (to_register i 0 0))
+does_other SYSCALL i = Err Call
 
 unfoldable pub does : Instruction → Ins → Effect
-does (alu a) i = to_rd i (result a i)
-does (imm a) i = to_rt i (immediate a i)
+does (alu a) i = Ok (to_rd i (result a i))
+does (imm a) i = Ok (to_rt i (immediate a i))
 does (hilo h) i = hi_lo h i
 does (load l) i = after (to_rt i) (loaded l i)
 does (store s) i = after (storing i 0 0) (stored s i)
@@ -84,13 +82,13 @@ does (conditional c) i = conditionally c i
 does (branch b) i = branching b i
 does (jump j) i = jumping j i
 does (other o) i = does_other o i
-does reserved i = Refused Reserved
+does reserved i = Err (Refused Reserved)
 -- REGIMM gives 4 before 3
-does reserved_branch i = cond (i.next == plus i.pc 4) (Refused Reserved) (Refused DelaySlot)
+does reserved_branch i = cond (i.next == plus i.pc 4) (Err (Refused Reserved)) (Err (Refused DelaySlot))
 
 -- 2 comes first
 unfoldable pub kernel_def : Ins → Effect
-kernel_def i = cond (i.pc % 4 == 0) (does (decode i.word) i) (Refused PcMisaligned)
+kernel_def i = cond (i.pc % 4 == 0) (does (decode i.word) i) (Err (Refused PcMisaligned))
 
 -- ---- the touched eight bytes: loads and stores alone, SC and SCD also when they store nothing
 

@@ -1,12 +1,10 @@
 -- Loads as functions of the aligned eight bytes m, the offset o in them, and t, the value of rt. Byte 0 is the highest: memory is big-endian.
-use Rattle.std.specs.Prelude.{ℕ, ◌+◌, ◌-◌, ◌*◌, ◌/◌, ◌%◌, ◌^◌, cond, not, ◌&&◌, ◌==◌}
-use Rattle.std.proofs.Math.Option.{Option, some, none}
+use Rattle.std.specs.Prelude.{ℕ, ◌+◌, ◌-◌, ◌*◌, ◌/◌, ◌%◌, ◌^◌, cond, not, ◌&&◌, ◌==◌, Result, Ok, Err}
 use Rattle.pages.specs.Bytes.{cell, big, bytes_of}
 use Rattle.interpreter.specs.Words.{by_rules, word, plus, sext, or}
 use Rattle.interpreter.specs.Isa.{imm_of, Load, LB, LBU, LH, LHU, LW, LWU, LL, LD, LLD, LWL, LWR, LDL, LDR}
 use Rattle.interpreter.specs.declared.effect.Ins.{Ins}
-use Rattle.interpreter.specs.declared.effect.Outcome.{Outcome}
-use Rattle.interpreter.specs.declared.effect.Outcome.TheVariants.{Value, Trapped, Unknown}
+use Rattle.interpreter.specs.declared.effect.Refusal.{Refusal}
 use Rattle.interpreter.specs.declared.effect.Refusal.TheVariants.{AddressError}
 
 -- ---- the address
@@ -18,8 +16,8 @@ abbrev pub offset_of : Ins → ℕ
 offset_of i = address_of i.word i.rs % 8
 
 -- an access of n bytes: rules 1 refuses it off its alignment
-unfoldable pub aligned : Ins → ℕ → ℕ → Outcome
-aligned i n v = cond (not (i.rules == 0) && not (address_of i.word i.rs % n == 0)) (Trapped AddressError) (Value v)
+unfoldable pub aligned : Ins → ℕ → ℕ → Result ℕ Refusal
+aligned i n v = cond (not (i.rules == 0) && not (address_of i.word i.rs % n == 0)) (Err AddressError) (Ok v)
 
 -- ---- whole bytes, halfwords, words. Where rules 0 lets an address off alignment pass, its low bits are cleared
 
@@ -64,9 +62,9 @@ ldr rules m o t = cond (rules == 0 && o == 7) (or m t) (kept (o + 1) t + big (o 
 
 -- ---- what each loads
 
-unfoldable pub loaded : Load → Ins → Outcome
-loaded LB i = Value (sext 8 (byte_at i.mem (offset_of i)))
-loaded LBU i = Value (byte_at i.mem (offset_of i))
+unfoldable pub loaded : Load → Ins → Result ℕ Refusal
+loaded LB i = Ok (sext 8 (byte_at i.mem (offset_of i)))
+loaded LBU i = Ok (byte_at i.mem (offset_of i))
 loaded LH i = aligned i 2 (sext 16 (half_at i.mem (offset_of i)))
 loaded LHU i = aligned i 2 (half_at i.mem (offset_of i))
 loaded LW i = aligned i 4 (sext 32 (word_at i.mem (offset_of i)))
@@ -74,12 +72,7 @@ loaded LWU i = aligned i 4 (word_at i.mem (offset_of i))
 loaded LL i = aligned i 4 (sext 32 (word_at i.mem (offset_of i)))
 loaded LD i = aligned i 8 i.mem
 loaded LLD i = aligned i 8 i.mem
-loaded LWL i = Value (lwl i.rules i.mem (offset_of i) i.rt)
-loaded LWR i = Value (lwr i.rules i.mem (offset_of i) i.rt)
-loaded LDL i = Value (ldl i.mem (offset_of i) i.rt)
-loaded LDR i = Value (ldr i.rules i.mem (offset_of i) i.rt)
-
--- the loads' answer to an opcode
-unfoldable pub loaded_by : Option Load → Ins → Outcome
-loaded_by (some l) i = loaded l i
-loaded_by none i = Unknown
+loaded LWL i = Ok (lwl i.rules i.mem (offset_of i) i.rt)
+loaded LWR i = Ok (lwr i.rules i.mem (offset_of i) i.rt)
+loaded LDL i = Ok (ldl i.mem (offset_of i) i.rt)
+loaded LDR i = Ok (ldr i.rules i.mem (offset_of i) i.rt)

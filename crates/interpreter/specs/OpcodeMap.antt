@@ -1,17 +1,16 @@
 -- The opcode map: which code is which instruction (isa.rs; the manual, "CPU Instruction Encoding"). A code on no list is reserved.
-use Rattle.std.specs.Prelude.{ℕ, Bool, true, false, cond, ◌||◌, List, [], ◌∷◌, ◌==◌}
-use Rattle.std.proofs.Math.Option.{Option, some, none}
+use Rattle.std.specs.Prelude.{ℕ, Bool, cond, ◌||◌, List, [], ◌∷◌, ◌==◌, Option, Some, None, is_some}
 use Rattle.interpreter.specs.Isa.{opcode_of, rt_of, funct_of, Alu, SLL, SRL, SRA, SLLV, SRLV, SRAV, DSLL, DSRL, DSRA, DSLL32, DSRL32, DSRA32, DSLLV, DSRLV, DSRAV, ADD, ADDU, SUB, SUBU, DADD, DADDU, DSUB, DSUBU, AND, OR, XOR, NOR, SLT, SLTU, MFHI, MFLO, MUL, CLZ, CLO, DCLZ, Imm, ADDI, ADDIU, SLTI, SLTIU, ANDI, ORI, XORI, LUI, DADDI, DADDIU, HiLo, MTHI, MTLO, MULT, MULTU, DMULT, DMULTU, DIV, DIVU, DDIV, DDIVU, Load, LB, LBU, LH, LHU, LW, LWU, LL, LD, LLD, LWL, LWR, LDL, LDR, Store, SB, SH, SW, SD, SWL, SWR, SDL, SDR, Conditional, SC, SCD, Branch, BEQ, BNE, BLEZ, BGTZ, BLTZ, BGEZ, BGEZAL, Jump, J, JAL, JR, JALR, Instruction, alu, imm, hilo, load, store, conditional, branch, jump, Other, MOVZ, MOVN, SYNC, SYSCALL, other, reserved, reserved_branch}
 
 -- what a list of codes has at a number
 unfoldable pub find : {A : Type 0} → ℕ → List (ℕ × A) → Option A
-find x [] = none
-find x (code ∷ codes) = cond (x == code.0) (some code.1) (find x codes)
+find x [] = None
+find x (code ∷ codes) = cond (x == code.0) (Some code.1) (find x codes)
 
 -- the instruction that was found, or the other one
 unfoldable pub found : {A : Type 0} → (A → Instruction) → Option A → Instruction → Instruction
-found f (some a) rest = f a
-found f none rest = rest
+found f (Some a) rest = f a
+found f None rest = rest
 
 -- ---- opcode
 
@@ -51,11 +50,6 @@ by_opcode op =
     (found branch (find op branches)
     (found imm (find op immediates)
     (memory op)))
-
--- whether a list has a code
-abbrev pub is_some : {A : Type 0} → Option A → Bool
-is_some (some a) = true
-is_some none = false
 
 -- a load or store
 unfoldable pub accesses : ℕ → Bool

@@ -1,5 +1,5 @@
 -- What the code's private parts answer and leave. No public promise rests on these.
-use Rattle.std.specs.Prelude.{◌≡◌, ℕ, zero, suc, ◌+◌, ◌-◌, ◌*◌, ◌/◌, ◌%◌, ◌≤◌, Bool, true, false, cond, List, [], ◌++◌, length, ◌==◌, nat_le, nat_lt, Ok, Some}
+use Rattle.std.specs.Prelude.{◌≡◌, ℕ, zero, suc, ◌+◌, ◌-◌, ◌*◌, ◌/◌, ◌%◌, ◌≤◌, Bool, true, false, cond, List, [], ◌++◌, length, ◌==◌, nat_le, nat_lt, Ok, Some, Option}
 use Rattle.std.proofs.lemmas.List.Edits.{sets}
 use Rattle.pages.specs.Bytes.{cell, row, big}
 use Rattle.pages.specs.Memory.{Memory, span}
@@ -19,12 +19,8 @@ use Rattle.interpreter.specs.declared.hint.Heard.{Heard}
 use Rattle.interpreter.specs.declared.hint.Heard.TheVariants.{Keep, HandOut, Refuse}
 use Rattle.interpreter.specs.declared.effect.Ins.{Ins}
 use Rattle.interpreter.specs.declared.effect.Change.{Change}
-use Rattle.interpreter.specs.declared.effect.Effect.{Effect}
-use Rattle.interpreter.specs.declared.effect.Effect.TheVariants.{Done, Call as CallBy}
 use Rattle.interpreter.specs.declared.window.Window.{Window}
 use Rattle.interpreter.specs.declared.window.Pair.{Pair}
-use Rattle.interpreter.specs.declared.access.Near.{Near}
-use Rattle.interpreter.specs.declared.access.Near.TheVariants.{Here, Away}
 use Rattle.interpreter.specs.declared.quick.Core.{Core}
 use Rattle.interpreter.specs.declared.quick.Turn.{Turn}
 use Rattle.interpreter.specs.declared.quick.Fetched.{Fetched}
@@ -34,11 +30,11 @@ use Rattle.interpreter.specs.declared.shown.Made.TheVariants.{Wide, Stepped}
 use Rattle.interpreter.specs.Words.{plus}
 use Rattle.interpreter.specs.Isa.{opcode_of, funct_of}
 use Rattle.interpreter.specs.OpcodeMap.{decode}
-use Rattle.interpreter.specs.Effects.{seeing}
+use Rattle.interpreter.specs.Effects.{Effect, seeing}
 use Rattle.interpreter.specs.Loads.{address_of}
 use Rattle.interpreter.specs.Kernel.{does, touching}
 use Rattle.interpreter.specs.Machine.{Machine, machine, reg, set_reg, changed, counted, room_of, bad}
-use Rattle.interpreter.specs.Plan.{Store, keeps, stores, eight_at, storing, call_in, calling, touch_of, executing}
+use Rattle.interpreter.specs.Plan.{eight_at, storing, call_in, calling, touch_of, executing}
 use Rattle.interpreter.specs.Ideal.{ideal, ideal_view, remember}
 use Rattle.interpreter.specs.Recording.{call_wide, call_touch, wide, touched, memory_of, state_in, Recorded, recorded}
 use Rattle.interpreter.specs.Shown.{shown_at, Shown, shown, made_by}
@@ -112,28 +108,23 @@ called_shown c r k t m g = cond (call_wide g) (shown Wide r k) (made_by r k m t 
 unfoldable pub call_shown : Cpu → List ℕ → List ℕ → ℕ → Shown
 call_shown c r k x = called_shown c r k (call_touch (reg r 5) (call_in c r)) (shown_at (call_touch (reg r 5) (call_in c r)) x) (call_in c r)
 
--- what an instruction stores
-abbrev pub store_of : Touch → Bool → ℕ → Store
-store_of Nothing b v = keeps
-store_of (Eight a) b v = cond b (stores a v) keeps
-
 -- any other instruction, that changes e
 unfoldable pub change_shown : Cpu → List ℕ → List ℕ → Touch → ℕ → Change → Shown
 change_shown c r k t x e = shown (Stepped (changed c e) t (eight_at (remember (shown_at t x) (storing t e)) t)) (set_reg r e.dest e.value) k
 
 -- ---- many steps in a row
 
--- a quick answer: the change that the definition makes, or anything that is no change and is left to others
-unfoldable pub Agrees : Effect → Effect → Type 0
-Agrees r s = (e : Change) → r ≡ Done e → s ≡ Done e
+-- a quick answer: the change that the definition makes, or none, which is left to others
+unfoldable pub Agrees : Option Change → Effect → Type 0
+Agrees r s = (e : Change) → r ≡ Some e → s ≡ Ok e
 
 -- one number for an instruction: the opcode field, and of SPECIAL the function field behind all opcodes
 unfoldable pub key_of : ℕ → ℕ
 key_of w = cond (opcode_of w == 0x00) (0x40 + funct_of w) (opcode_of w)
 
 -- the same of an instruction that touches no memory
-unfoldable pub Quiet : Effect → Ins → Type 0
-Quiet r i = (e : Change) → r ≡ Done e → (does (decode i.word) i ≡ Done e) × ((a : ℕ) → touching (decode i.word) a ≡ Nothing)
+unfoldable pub Quiet : Option Change → Ins → Type 0
+Quiet r i = (e : Change) → r ≡ Some e → (does (decode i.word) i ≡ Ok e) × ((a : ℕ) → touching (decode i.word) a ≡ Nothing)
 
 -- a page's number and where its bytes stand, or no page's number
 pub data Shows (p : List ℕ) (u : ℕ) (w : Window) : Type 0 where
@@ -152,15 +143,10 @@ pub record Sees (p : List ℕ) (u : ℕ) (w : Window) (i j : Ins) : Type 0 where
   pub here : eight_of i / 4096 ≡ w.number
   pub eight : j ≡ seeing i (big 8 (byte_at p u) (eight_of i))
 
--- what an instruction does where its eight bytes are at hand
-abbrev pub on_near : Near → (Ins → Effect) → Effect
-on_near (Here j) f = f j
-on_near Away f = CallBy
-
 -- a quick answer of a load or store in the page
-unfoldable pub Reaches : List ℕ → ℕ → Window → Ins → Effect → Type 0
-Reaches p u w i r = (e : Change) → r ≡ Done e
-    → (does (decode i.word) (seeing i (big 8 (byte_at p u) (eight_of i))) ≡ Done e) × ((a : ℕ) → touching (decode i.word) a ≡ Eight a) × (eight_of i / 4096 ≡ w.number)
+unfoldable pub Reaches : List ℕ → ℕ → Window → Ins → Option Change → Type 0
+Reaches p u w i r = (e : Change) → r ≡ Some e
+    → (does (decode i.word) (seeing i (big 8 (byte_at p u) (eight_of i))) ≡ Ok e) × ((a : ℕ) → touching (decode i.word) a ≡ Eight a) × (eight_of i / 4096 ≡ w.number)
 
 -- whether the touched eight bytes lie in the page
 abbrev pub covered : Window → Touch → Bool

@@ -1,6 +1,6 @@
 -- What one step does (document 01, "One step", "System calls, both rules"), as a function of what it may look at.
 -- Our machine and the definition's machine have this plan in common: they part only in the room they have.
-use Rattle.std.specs.Prelude.{ℕ, ◌+◌, ◌*◌, ◌/◌, ◌%◌, Bool, cond, List, [], ◌++◌, length, nat_lt}
+use Rattle.std.specs.Prelude.{ℕ, ◌+◌, ◌*◌, ◌/◌, ◌%◌, Bool, cond, List, [], ◌++◌, length, nat_lt, Ok, Err, Option, Some, None}
 use Rattle.pages.specs.Bytes.{cell, row, big, bytes_of}
 use Rattle.pages.specs.Memory.{Memory, span}
 use Rattle.interpreter.specs.Words.{word, plus}
@@ -8,8 +8,8 @@ use Rattle.interpreter.specs.Isa.{rs_of, rt_of}
 use Rattle.interpreter.specs.Kernel.{kernel_def, touch_def}
 use Rattle.interpreter.specs.declared.effect.Ins.{Ins}
 use Rattle.interpreter.specs.declared.effect.Change.{Change}
-use Rattle.interpreter.specs.declared.effect.Effect.{Effect}
-use Rattle.interpreter.specs.declared.effect.Effect.TheVariants.{Refused as RefusedBy, Call as CallBy, Done}
+use Rattle.interpreter.specs.Effects.{Effect}
+use Rattle.interpreter.specs.declared.effect.Stop.TheVariants.{Refused as RefusedBy, Call as CallBy}
 use Rattle.interpreter.specs.declared.effect.Touch.{Touch}
 use Rattle.interpreter.specs.declared.effect.Touch.TheVariants.{Nothing, Eight}
 use Rattle.interpreter.specs.declared.effect.Refusal.{Refusal}
@@ -67,9 +67,14 @@ abbrev pub eight_at : Memory → Touch → ℕ
 eight_at m Nothing = 0
 eight_at m (Eight a) = big 8 m a
 
+-- what is stored there, where the eight bytes afterwards are stored
+abbrev pub store_of : Touch → Option ℕ → Store
+store_of Nothing m = keeps
+store_of (Eight a) (Some m) = stores a m
+store_of (Eight a) None = keeps
+
 abbrev pub storing : Touch → Change → Store
-storing Nothing e = keeps
-storing (Eight a) e = cond e.store (stores a e.mem) keeps
+storing t e = store_of t e.store
 
 unfoldable pub changing : View → Touch → Change → Deed
 changing v t e = record { answer = Stepped; cpu = changed v.cpu e; regs = set_reg v.regs e.dest e.value; key = v.key; store = storing t e; appended = []; written = [] }
@@ -169,9 +174,9 @@ unfoldable pub touch_of : List ℕ → ℕ → Touch
 touch_of r w = touch_def w (reg r (rs_of w))
 
 unfoldable pub planned : View → Touch → Effect → Plan
-planned v t (RefusedBy n) = refuse n
-planned v t CallBy = calling v (call_in v.cpu v.regs)
-planned v t (Done e) = does (changing v t e)
+planned v t (Err (RefusedBy n)) = refuse n
+planned v t (Err CallBy) = calling v (call_in v.cpu v.regs)
+planned v t (Ok e) = does (changing v t e)
 
 unfoldable pub executing : View → ℕ → Touch → Plan
 executing v w t = planned v t (kernel_def (ins_of v.cpu v.regs w (eight_at v.memory t)))

@@ -1,10 +1,10 @@
 -- The step that a record shows (document 01, "The step record"): made from a state, the instruction and the touched eight bytes alone.
-use Rattle.std.specs.Prelude.{ℕ, ◌+◌, ◌<◌, ◌≤◌, cond, List, []}
+use Rattle.std.specs.Prelude.{ℕ, ◌+◌, ◌<◌, ◌≤◌, cond, List, [], Ok, Err}
 use Rattle.pages.specs.Bytes.{bytes_of}
 use Rattle.pages.specs.Memory.{Memory, write}
 use Rattle.interpreter.specs.Kernel.{kernel_def}
-use Rattle.interpreter.specs.declared.effect.Effect.{Effect}
-use Rattle.interpreter.specs.declared.effect.Effect.TheVariants.{Refused as RefusedBy, Call as CallBy, Done}
+use Rattle.interpreter.specs.Effects.{Effect}
+use Rattle.interpreter.specs.declared.effect.Stop.TheVariants.{Refused as RefusedBy, Call as CallBy}
 use Rattle.interpreter.specs.declared.effect.Touch.{Touch}
 use Rattle.interpreter.specs.declared.effect.Touch.TheVariants.{Nothing, Eight}
 use Rattle.interpreter.specs.declared.state.Cpu.{Cpu}
@@ -49,9 +49,9 @@ made_by r k m t (refuse n) = shown (Refused n) r k
 made_by r k m t (does d) = shown (Stepped d.cpu t (eight_at (remember m d.store) t)) d.regs d.key
 
 abbrev pub unless_refused : List ℕ → List ℕ → Effect → Shown → Shown
-unless_refused r k (RefusedBy n) s = shown (Refused n) r k
-unless_refused r k CallBy s = s
-unless_refused r k (Done e) s = s
+unless_refused r k (Err (RefusedBy n)) s = shown (Refused n) r k
+unless_refused r k (Err CallBy) s = s
+unless_refused r k (Ok e) s = s
 
 -- refused with 2 to 7 first, then wide
 unfoldable pub made_with : Cpu → List ℕ → List ℕ → ℕ → Touch → Memory → Shown

@@ -1,18 +1,14 @@
 -- Stores as functions of the aligned eight bytes m, the offset o in them, and t, the value of rt. Byte 0 is the highest.
-use Rattle.std.specs.Prelude.{ℕ, ◌+◌, ◌-◌, ◌*◌, ◌/◌, ◌%◌, ◌^◌, cond, not, ◌&&◌, List, ◌==◌, nat_lt}
-use Rattle.std.proofs.Math.Option.{Option, some, none}
+use Rattle.std.specs.Prelude.{ℕ, ◌+◌, ◌-◌, ◌*◌, ◌/◌, ◌%◌, ◌^◌, cond, not, ◌&&◌, List, ◌==◌, nat_lt, Result, Ok, Err}
 use Rattle.pages.specs.Bytes.{big, bytes_of}
 use Rattle.pages.specs.Memory.{write}
 use Rattle.interpreter.specs.Words.{by_rules, word, or}
 use Rattle.interpreter.specs.Isa.{rt_of, Store, SB, SH, SW, SD, SWL, SWR, SDL, SDR, Conditional, SC, SCD}
-use Rattle.interpreter.specs.Effects.{to_register, storing}
+use Rattle.interpreter.specs.Effects.{Effect, to_register, storing}
 use Rattle.interpreter.specs.Loads.{offset_of, aligned, byte}
 use Rattle.interpreter.specs.declared.effect.Ins.{Ins}
-use Rattle.interpreter.specs.declared.effect.Effect.{Effect}
-use Rattle.interpreter.specs.declared.effect.Effect.TheVariants.{Refused}
-use Rattle.interpreter.specs.declared.effect.Outcome.{Outcome}
-use Rattle.interpreter.specs.declared.effect.Outcome.TheVariants.{Value, Trapped, Unknown}
-use Rattle.interpreter.specs.declared.effect.Refusal.TheVariants.{Reserved}
+use Rattle.interpreter.specs.declared.effect.Stop.TheVariants.{Refused}
+use Rattle.interpreter.specs.declared.effect.Refusal.{Refusal}
 
 -- the eight bytes with the bytes vs written from offset k on
 unfoldable pub put : ℕ → ℕ → List ℕ → ℕ
@@ -60,26 +56,20 @@ sdr m o t = put m 0 (bytes_of (o + 1) t)
 
 -- ---- what each stores: the eight bytes afterwards
 
-unfoldable pub stored : Store → Ins → Outcome
-stored SB i = Value (sb i.mem (offset_of i) i.rt)
+unfoldable pub stored : Store → Ins → Result ℕ Refusal
+stored SB i = Ok (sb i.mem (offset_of i) i.rt)
 stored SH i = aligned i 2 (sh i.mem (offset_of i) i.rt)
 stored SW i = aligned i 4 (sw i.mem (offset_of i) i.rt)
 stored SD i = aligned i 8 (sd i.rules i.mem (offset_of i) i.rt)
-stored SWL i = Value (swl i.mem (offset_of i) i.rt)
-stored SWR i = Value (swr i.rules i.mem (offset_of i) i.rt)
-stored SDL i = Value (sdl i.mem (offset_of i) i.rt)
-stored SDR i = Value (sdr i.mem (offset_of i) i.rt)
-
--- the stores' answer to an opcode
-unfoldable pub stored_by : Option Store → Ins → Outcome
-stored_by (some s) i = stored s i
-stored_by none i = Unknown
+stored SWL i = Ok (swl i.mem (offset_of i) i.rt)
+stored SWR i = Ok (swr i.rules i.mem (offset_of i) i.rt)
+stored SDL i = Ok (sdl i.mem (offset_of i) i.rt)
+stored SDR i = Ok (sdr i.mem (offset_of i) i.rt)
 
 -- SC and SCD store as SW and SD do and put 1 in a nonzero rt; with the field rt = 0 rules 0 stores nothing
-abbrev pub answering : Ins → Outcome → Effect
-answering i (Value m) = cond (i.rules == 0 && rt_of i.word == 0) (to_register i 0 0) (storing i (rt_of i.word) 1 m)
-answering i (Trapped t) = Refused t
-answering i Unknown = Refused Reserved
+abbrev pub answering : Ins → Result ℕ Refusal → Effect
+answering i (Ok m) = Ok (cond (i.rules == 0 && rt_of i.word == 0) (to_register i 0 0) (storing i (rt_of i.word) 1 m))
+answering i (Err n) = Err (Refused n)
 
 unfoldable pub conditionally : Conditional → Ins → Effect
 conditionally SC i = answering i (stored SW i)

@@ -1,20 +1,16 @@
-// Loads and stores, each where the eight bytes that it touches are at hand.
-ghost use Rattle.std.specs.Prelude.{◌≡◌, ◌<◌};
-ghost use Rattle.interpreter.specs.Isa.{load, store, LB, LBU, LH, LHU, LW, LWU, LD, LDL, LDR, LWL, LWR, SB, SH, SW, SD, SDL, SDR, SWL, SWR};
+// Loads and stores, one function for each instruction, which has the eight bytes that it touches.
+#![tactic(auto, unfolding(crate::specs::Kernel::does, crate::specs::Loads::loaded, crate::specs::Stores::stored, crate::specs::Stores::conditionally))]
+
+ghost use Rattle.std.specs.Prelude.{◌≡◌, ◌<◌, ◌&&◌, ◌==◌, Result};
+ghost use Rattle.interpreter.specs.Isa.{rt_of, load, store, conditional, LB, LBU, LH, LHU, LW, LWU, LL, LD, LLD, LDL, LDR, LWL, LWR, SB, SH, SW, SD, SDL, SDR, SWL, SWR, SC, SCD};
 ghost use Rattle.interpreter.specs.Effects.{to_rt, storing};
 ghost use Rattle.interpreter.specs.Loads.{offset_of, aligned};
+ghost use Rattle.interpreter.specs.Stores.{answering};
 ghost use Rattle.interpreter.specs.Kernel.{after, does};
-ghost use Rattle.interpreter.specs.Parts.{on_near};
 
-use crate::effect::{Effect, Ins, Outcome, Refusal};
+use crate::effect::{Effect, Ins, Refusal};
+use crate::isa::IType;
 use crate::{bits, loads, stores};
-
-// An instruction with the eight bytes that it touches, where these lie in a page that is at hand.
-#[derive(Clone, Copy)]
-pub(crate) enum Near {
-    Here(Ins),
-    Away,
-}
 
 // Where an access is in its eight bytes.
 fn offset(i: Ins) -> u64
@@ -28,12 +24,7 @@ fn loading(i: Ins, n: u64, v: u64) -> Effect
     requires { 0 < n }
     ensures { result ≡ after (to_rt i) (aligned i n v) }
 {
-    let loaded = loads::aligned(i, n, v);
-    match loaded {
-        Outcome::Value(x) => i.to_rt(x),
-        Outcome::Trapped(refusal) => Effect::Refused(refusal),
-        Outcome::Unknown => Effect::Refused(Refusal::Reserved),
-    }
+    Ok(i.to_rt(loads::aligned(i, n, v)?))
 }
 
 // A store of n bytes that makes the eight bytes m.
@@ -41,181 +32,164 @@ fn keeping(i: Ins, n: u64, m: u64) -> Effect
     requires { 0 < n }
     ensures { result ≡ after (storing i 0 0) (aligned i n m) }
 {
-    let kept = loads::aligned(i, n, m);
-    match kept {
-        Outcome::Value(x) => i.storing(0, 0, x),
-        Outcome::Trapped(refusal) => Effect::Refused(refusal),
-        Outcome::Unknown => Effect::Refused(Refusal::Reserved),
+    Ok(i.storing(0, 0, loads::aligned(i, n, m)?))
+}
+
+pub(crate) fn lb(i: Ins) -> Effect
+    ensures { result ≡ does (load LB) i }
+{
+    Ok(i.to_rt(bits::sext::<8>(loads::byte_at(i.mem, offset(i)))))
+}
+
+pub(crate) fn lbu(i: Ins) -> Effect
+    ensures { result ≡ does (load LBU) i }
+{
+    Ok(i.to_rt(loads::byte_at(i.mem, offset(i))))
+}
+
+pub(crate) fn lh(i: Ins) -> Effect
+    ensures { result ≡ does (load LH) i }
+{
+    loading(i, 2, bits::sext::<16>(loads::half_at(i.mem, offset(i))))
+}
+
+pub(crate) fn lhu(i: Ins) -> Effect
+    ensures { result ≡ does (load LHU) i }
+{
+    loading(i, 2, loads::half_at(i.mem, offset(i)))
+}
+
+pub(crate) fn lw(i: Ins) -> Effect
+    ensures { result ≡ does (load LW) i }
+{
+    loading(i, 4, bits::sext::<32>(loads::word_at(i.mem, offset(i))))
+}
+
+pub(crate) fn lwu(i: Ins) -> Effect
+    ensures { result ≡ does (load LWU) i }
+{
+    loading(i, 4, loads::word_at(i.mem, offset(i)))
+}
+
+pub(crate) fn ll(i: Ins) -> Effect
+    ensures { result ≡ does (load LL) i }
+{
+    lw(i)
+}
+
+pub(crate) fn ld(i: Ins) -> Effect
+    ensures { result ≡ does (load LD) i }
+{
+    loading(i, 8, i.mem)
+}
+
+pub(crate) fn lld(i: Ins) -> Effect
+    ensures { result ≡ does (load LLD) i }
+{
+    ld(i)
+}
+
+pub(crate) fn ldl(i: Ins) -> Effect
+    ensures { result ≡ does (load LDL) i }
+{
+    Ok(i.to_rt(loads::ldl(i.mem, offset(i), i.rt)))
+}
+
+pub(crate) fn ldr(i: Ins) -> Effect
+    ensures { result ≡ does (load LDR) i }
+{
+    Ok(i.to_rt(loads::ldr(i.rules, i.mem, offset(i), i.rt)))
+}
+
+pub(crate) fn lwl(i: Ins) -> Effect
+    ensures { result ≡ does (load LWL) i }
+{
+    Ok(i.to_rt(loads::lwl(i.rules, i.mem, offset(i), i.rt)))
+}
+
+pub(crate) fn lwr(i: Ins) -> Effect
+    ensures { result ≡ does (load LWR) i }
+{
+    Ok(i.to_rt(loads::lwr(i.rules, i.mem, offset(i), i.rt)))
+}
+
+pub(crate) fn sb(i: Ins) -> Effect
+    ensures { result ≡ does (store SB) i }
+{
+    Ok(i.storing(0, 0, stores::sb(i.mem, offset(i), i.rt)))
+}
+
+pub(crate) fn sh(i: Ins) -> Effect
+    ensures { result ≡ does (store SH) i }
+{
+    keeping(i, 2, stores::sh(i.mem, offset(i), i.rt))
+}
+
+pub(crate) fn sw(i: Ins) -> Effect
+    ensures { result ≡ does (store SW) i }
+{
+    keeping(i, 4, stores::sw(i.mem, offset(i), i.rt))
+}
+
+pub(crate) fn sd(i: Ins) -> Effect
+    ensures { result ≡ does (store SD) i }
+{
+    keeping(i, 8, stores::sd(i.rules, i.mem, offset(i), i.rt))
+}
+
+pub(crate) fn sdl(i: Ins) -> Effect
+    ensures { result ≡ does (store SDL) i }
+{
+    Ok(i.storing(0, 0, stores::sdl(i.mem, offset(i), i.rt)))
+}
+
+pub(crate) fn sdr(i: Ins) -> Effect
+    ensures { result ≡ does (store SDR) i }
+{
+    Ok(i.storing(0, 0, stores::sdr(i.mem, offset(i), i.rt)))
+}
+
+pub(crate) fn swl(i: Ins) -> Effect
+    ensures { result ≡ does (store SWL) i }
+{
+    Ok(i.storing(0, 0, stores::swl(i.mem, offset(i), i.rt)))
+}
+
+pub(crate) fn swr(i: Ins) -> Effect
+    ensures { result ≡ does (store SWR) i }
+{
+    Ok(i.storing(0, 0, stores::swr(i.rules, i.mem, offset(i), i.rt)))
+}
+
+// With the field rt = 0 rules 0 stores nothing.
+fn skips(i: Ins) -> bool
+    ensures { result ≡ (i.rules == 0 && rt_of i.word == 0) }
+{
+    i.rules == 0 && IType::decode(i.word).rt == 0
+}
+
+// SC and SCD put 1 in a nonzero rt.
+fn answering(i: Ins, stored: Result<u64, Refusal>) -> Effect
+    ensures { result ≡ answering i stored }
+{
+    let m = stored?;
+    if skips(i) {
+        return Ok(i.to_register(0, 0));
     }
+    Ok(i.storing(IType::decode(i.word).rt, 1, m))
 }
 
-pub(crate) fn lb(n: Near) -> Effect
-    ensures { result ≡ on_near n (does (load LB)) }
+pub(crate) fn sc(i: Ins) -> Effect
+    ensures { result ≡ does (conditional SC) i }
 {
-    let Near::Here(j) = n else {
-        return Effect::Call;
-    };
-    j.to_rt(bits::sext_byte(loads::byte_at(j.mem, offset(j))))
+    answering(i, loads::aligned(i, 4, stores::sw(i.mem, offset(i), i.rt)))
 }
 
-pub(crate) fn lbu(n: Near) -> Effect
-    ensures { result ≡ on_near n (does (load LBU)) }
+pub(crate) fn scd(i: Ins) -> Effect
+    ensures { result ≡ does (conditional SCD) i }
 {
-    let Near::Here(j) = n else {
-        return Effect::Call;
-    };
-    j.to_rt(loads::byte_at(j.mem, offset(j)))
-}
-
-pub(crate) fn lh(n: Near) -> Effect
-    ensures { result ≡ on_near n (does (load LH)) }
-{
-    let Near::Here(j) = n else {
-        return Effect::Call;
-    };
-    loading(j, 2, bits::sext_half(loads::half_at(j.mem, offset(j))))
-}
-
-pub(crate) fn lhu(n: Near) -> Effect
-    ensures { result ≡ on_near n (does (load LHU)) }
-{
-    let Near::Here(j) = n else {
-        return Effect::Call;
-    };
-    loading(j, 2, loads::half_at(j.mem, offset(j)))
-}
-
-pub(crate) fn lw(n: Near) -> Effect
-    ensures { result ≡ on_near n (does (load LW)) }
-{
-    let Near::Here(j) = n else {
-        return Effect::Call;
-    };
-    loading(j, 4, bits::sext_word(loads::word_at(j.mem, offset(j))))
-}
-
-pub(crate) fn lwu(n: Near) -> Effect
-    ensures { result ≡ on_near n (does (load LWU)) }
-{
-    let Near::Here(j) = n else {
-        return Effect::Call;
-    };
-    loading(j, 4, loads::word_at(j.mem, offset(j)))
-}
-
-pub(crate) fn ld(n: Near) -> Effect
-    ensures { result ≡ on_near n (does (load LD)) }
-{
-    let Near::Here(j) = n else {
-        return Effect::Call;
-    };
-    loading(j, 8, j.mem)
-}
-
-pub(crate) fn ldl(n: Near) -> Effect
-    ensures { result ≡ on_near n (does (load LDL)) }
-{
-    let Near::Here(j) = n else {
-        return Effect::Call;
-    };
-    j.to_rt(loads::ldl(j.mem, offset(j), j.rt))
-}
-
-pub(crate) fn ldr(n: Near) -> Effect
-    ensures { result ≡ on_near n (does (load LDR)) }
-{
-    let Near::Here(j) = n else {
-        return Effect::Call;
-    };
-    j.to_rt(loads::ldr(j.rules, j.mem, offset(j), j.rt))
-}
-
-pub(crate) fn lwl(n: Near) -> Effect
-    ensures { result ≡ on_near n (does (load LWL)) }
-{
-    let Near::Here(j) = n else {
-        return Effect::Call;
-    };
-    j.to_rt(loads::lwl(j.rules, j.mem, offset(j), j.rt))
-}
-
-pub(crate) fn lwr(n: Near) -> Effect
-    ensures { result ≡ on_near n (does (load LWR)) }
-{
-    let Near::Here(j) = n else {
-        return Effect::Call;
-    };
-    j.to_rt(loads::lwr(j.rules, j.mem, offset(j), j.rt))
-}
-
-pub(crate) fn sb(n: Near) -> Effect
-    ensures { result ≡ on_near n (does (store SB)) }
-{
-    let Near::Here(j) = n else {
-        return Effect::Call;
-    };
-    j.storing(0, 0, stores::sb(j.mem, offset(j), j.rt))
-}
-
-pub(crate) fn sh(n: Near) -> Effect
-    ensures { result ≡ on_near n (does (store SH)) }
-{
-    let Near::Here(j) = n else {
-        return Effect::Call;
-    };
-    keeping(j, 2, stores::sh(j.mem, offset(j), j.rt))
-}
-
-pub(crate) fn sw(n: Near) -> Effect
-    ensures { result ≡ on_near n (does (store SW)) }
-{
-    let Near::Here(j) = n else {
-        return Effect::Call;
-    };
-    keeping(j, 4, stores::sw(j.mem, offset(j), j.rt))
-}
-
-pub(crate) fn sd(n: Near) -> Effect
-    ensures { result ≡ on_near n (does (store SD)) }
-{
-    let Near::Here(j) = n else {
-        return Effect::Call;
-    };
-    keeping(j, 8, stores::sd(j.rules, j.mem, offset(j), j.rt))
-}
-
-pub(crate) fn sdl(n: Near) -> Effect
-    ensures { result ≡ on_near n (does (store SDL)) }
-{
-    let Near::Here(j) = n else {
-        return Effect::Call;
-    };
-    j.storing(0, 0, stores::sdl(j.mem, offset(j), j.rt))
-}
-
-pub(crate) fn sdr(n: Near) -> Effect
-    ensures { result ≡ on_near n (does (store SDR)) }
-{
-    let Near::Here(j) = n else {
-        return Effect::Call;
-    };
-    j.storing(0, 0, stores::sdr(j.mem, offset(j), j.rt))
-}
-
-pub(crate) fn swl(n: Near) -> Effect
-    ensures { result ≡ on_near n (does (store SWL)) }
-{
-    let Near::Here(j) = n else {
-        return Effect::Call;
-    };
-    j.storing(0, 0, stores::swl(j.mem, offset(j), j.rt))
-}
-
-pub(crate) fn swr(n: Near) -> Effect
-    ensures { result ≡ on_near n (does (store SWR)) }
-{
-    let Near::Here(j) = n else {
-        return Effect::Call;
-    };
-    j.storing(0, 0, stores::swr(j.rules, j.mem, offset(j), j.rt))
+    answering(
+        i,
+        loads::aligned(i, 8, stores::sd(i.rules, i.mem, offset(i), i.rt)),
+    )
 }

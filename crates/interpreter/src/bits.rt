@@ -1,9 +1,10 @@
 // Sums, sign extensions and orders of 64-bit numbers.
-ghost use Rattle.std.specs.Prelude.{◌≡◌, ◌<◌};
+ghost use Rattle.std.specs.Prelude.{◌≡◌, ◌<◌, ◌≤◌};
 ghost use Rattle.interpreter.specs.Words.{plus, minus, sext, sign_extend, negative, less};
 ghost use Rattle.interpreter.specs.Alu.{double_signed};
 
 // The Rust's sign_extend (utils): any index, counts modulo 64, and every bit from index - 1 up is a sign.
+#[tactic(auto, using(crate::proofs::Laws::Powers::one_shl, crate::proofs::Laws::Powers::pow_small, crate::proofs::Laws::Words::extend_none, crate::proofs::Laws::Words::extend_low, crate::proofs::Laws::Words::extend_high))]
 pub fn sign_extend(x: u64, index: u64) -> u64
     ensures { result ≡ sign_extend x index }
 {
@@ -31,26 +32,17 @@ pub(crate) fn minus(x: u64, y: u64) -> u64
     std::num::wrapping_sub_u64(x, y)
 }
 
-// The sign bit is added and taken away: with no branch, LLVM makes one sign-extending move of it.
-pub(crate) fn sext_byte(x: u64) -> u64
-    ensures { result ≡ sext 8 x }
+// The low N bits, sign-extended. The sign bit is added and taken away: with no branch, LLVM makes one sign-extending move of it.
+pub(crate) fn sext<const N: u64>(x: u64) -> u64
+    requires { (0 < N) × (N < 64) }
+    ensures { result ≡ sext N x }
 {
-    minus(plus(x, 0x80) % 0x100, 0x80)
-}
-
-pub(crate) fn sext_half(x: u64) -> u64
-    ensures { result ≡ sext 16 x }
-{
-    minus(plus(x, 0x8000) % 0x1_0000, 0x8000)
-}
-
-pub(crate) fn sext_word(x: u64) -> u64
-    ensures { result ≡ sext 32 x }
-{
-    minus(plus(x, 0x8000_0000) % 0x1_0000_0000, 0x8000_0000)
+    let sign = 1u64 << (N - 1);
+    minus(plus(x, sign) % (1u64 << N), sign)
 }
 
 // The arithmetic shift of a doubleword.
+#[tactic(auto, using(crate::proofs::Laws::Words::signed_low, crate::proofs::Laws::Words::signed_high))]
 pub(crate) fn shift_signed(x: u64, s: u64) -> u64
     requires { s < 64 }
     ensures { result ≡ double_signed x s }
@@ -62,13 +54,16 @@ pub(crate) fn shift_signed(x: u64, s: u64) -> u64
     }
 }
 
-pub(crate) fn negative(x: u64) -> bool
-    ensures { result ≡ negative 64 x }
+// The sign of N bits.
+pub(crate) fn negative<const N: u64>(x: u64) -> bool
+    requires { (0 < N) × (N ≤ 64) }
+    ensures { result ≡ negative N x }
 {
-    0x8000_0000_0000_0000 <= x
+    1u64 << (N - 1) <= x
 }
 
 // The signed order, by adding 2^63 to both sides.
+#[tactic(auto, using(crate::proofs::Laws::Words::less_biased))]
 pub(crate) fn less(x: u64, y: u64) -> bool
     ensures { result ≡ less x y }
 {

@@ -20,7 +20,7 @@ impl Ins {
         ensures { result ≡ branch_to self taken }
     {
         if taken {
-            let offset = bits::sext_half(IType::decode(self.word).imm);
+            let offset = bits::sext::<16>(IType::decode(self.word).imm);
             return bits::plus(bits::plus(self.pc, 4), offset << 2);
         }
         bits::plus(self.next, 4)
@@ -43,5 +43,5 @@ impl Ins {
 pub(crate) fn non_positive(x: u64) -> bool
     ensures { result ≡ non_positive x }
 {
-    bits::negative(x) || x == 0
+    bits::negative::<64>(x) || x == 0
 }

@@ -1,12 +1,14 @@
 // What an instruction reads, and what it does.
 ghost use Rattle.std.specs.Prelude.{◌≡◌};
+ghost use Rattle.interpreter.specs.declared.effect.Stop.TheVariants.{Refused};
 ghost use Rattle.interpreter.specs.Effects.{seeing, refusal_number, changes, to_register, to_rd, to_rt, storing, going};
 
 use crate::bits;
 use crate::isa::{IType, RType};
+use std::fmt;
 
-// An instruction with all that it reads. `mem` is the eight bytes at the touched address, and 0 where none is touched.
-#[derive(Clone, Copy)]
+/// An instruction with all that it reads. `mem` is the eight bytes at the touched address, and 0 where none is touched.
+#[derive(Clone, Copy, Debug, PartialEq, Eq)]
 pub struct Ins {
     pub rules: u8,
     pub word: u64,
@@ -19,9 +21,9 @@ pub struct Ins {
     pub mem: u64,
 }
 
-// What changes. Register 0 is never written, so `dest` is 0 where no register is. `mem` is the eight bytes afterwards;
-// they are stored only where `store` says so.
-#[derive(Clone, Copy)]
+/// What changes. Register 0 is never written, so `dest` is 0 where no register is. `store` is the eight bytes afterwards, where they
+/// are stored.
+#[derive(Clone, Copy, Debug, PartialEq, Eq)]
 pub struct Change {
     pub dest: u64,
     pub value: u64,
@@ -29,12 +31,11 @@ pub struct Change {
     pub next: u64,
     pub hi: u64,
     pub lo: u64,
-    pub store: bool,
-    pub mem: u64,
+    pub store: Option<u64>,
 }
 
-// Why a step is refused (document 01, "Numbers a refusal carries"); an instruction by itself only with 2 to 7.
-#[derive(Clone, Copy)]
+/// Why a step is refused (document 01, "Numbers a refusal carries"); an instruction by itself only with 2 to 7.
+#[derive(Clone, Copy, Debug, PartialEq, Eq)]
 pub enum Refusal {
     // 1: rules, used pages, hint length or recording buffer out of bounds.
     BadMachine,
@@ -64,122 +65,33 @@ pub enum Refusal {
     HintText,
 }
 
-#[derive(Clone, Copy)]
-pub enum Effect {
-    Refused(Refusal),
-    // SYSCALL: the step executes it.
-    Call,
-    Done(Change),
-}
-
-// What a group of instructions answers: a value, or that the code is not one of them.
-#[derive(Clone, Copy)]
-pub enum Known {
-    Value(u64),
-    Unknown,
-}
-
-// The same of a group that can refuse.
-#[derive(Clone, Copy)]
-pub enum Outcome {
-    Value(u64),
-    Trapped(Refusal),
-    Unknown,
-}
-
-// The eight bytes that an instruction touches, by their address.
-#[derive(Clone, Copy)]
-pub enum Touch {
-    Nothing,
-    Eight(u64),
-}
-
-impl Ins {
-    // The same instruction with these eight bytes.
-    pub(crate) fn seeing(self, mem: u64) -> Ins
-        ensures { result ≡ seeing self mem }
-    {
-        let mut i = self;
-        i.mem = mem;
-        i
-    }
-
-    // Register d gets v, hi and lo become h and l, and the program goes on with the next instruction.
-    pub(crate) fn changes(self, d: u64, v: u64, h: u64, l: u64) -> Effect
-        ensures { result ≡ changes self d v h l }
-    {
-        Effect::Done(Change {
-            dest: d,
-            value: v,
-            pc: self.next,
-            next: bits::plus(self.next, 4),
-            hi: h,
-            lo: l,
-            store: false,
-            mem: self.mem,
-        })
-    }
-
-    pub(crate) fn to_register(self, d: u64, v: u64) -> Effect
-        ensures { result ≡ to_register self d v }
-    {
-        self.changes(d, v, self.hi, self.lo)
-    }
-
-    pub(crate) fn to_rd(self, v: u64) -> Effect
-        ensures { result ≡ to_rd self v }
-    {
-        self.to_register(RType::decode(self.word).rd, v)
-    }
-
-    pub(crate) fn to_rt(self, v: u64) -> Effect
-        ensures { result ≡ to_rt self v }
-    {
-        self.to_register(IType::decode(self.word).rt, v)
-    }
-
-    // The eight bytes become m, and register d gets v.
-    pub(crate) fn storing(self, d: u64, v: u64, m: u64) -> Effect
-        ensures { result ≡ storing self d v m }
-    {
-        Effect::Done(Change {
-            dest: d,
-            value: v,
-            pc: self.next,
-            next: bits::plus(self.next, 4),
-            hi: self.hi,
-            lo: self.lo,
-            store: true,
-            mem: m,
-        })
-    }
-
-    // A jump or branch to t with its link, refused in a delay slot (handle_jump, handle_branch).
-    pub(crate) fn going(self, d: u64, v: u64, t: u64) -> Effect
-        ensures { result ≡ going self d v t }
-    {
-        if self.next != bits::plus(self.pc, 4) {
-            return Effect::Refused(Refusal::DelaySlot);
-        }
-        Effect::Done(Change {
-            dest: d,
-            value: v,
-            pc: self.next,
-            next: t,
-            hi: self.hi,
-            lo: self.lo,
-            store: false,
-            mem: self.mem,
-        })
-    }
-}
-
-impl Refusal {
-    // Document 01's number.
-    pub fn number(self) -> u8
-        ensures { result ≡ refusal_number self }
-    {
+impl fmt::Display for Refusal {
+    fn fmt<W: fmt::Write>(&self, f: &mut fmt::Formatter<W>) -> fmt::Result {
         match self {
+            Refusal::BadMachine => write!(f, "the machine's parts are out of bounds"),
+            Refusal::PcMisaligned => write!(f, "the program counter is misaligned"),
+            Refusal::Reserved => write!(f, "no such instruction"),
+            Refusal::DelaySlot => write!(f, "a jump or branch in a delay slot"),
+            Refusal::DivideByZero => write!(f, "division by zero"),
+            Refusal::Overflow => write!(f, "a quotient that does not fit"),
+            Refusal::AddressError => write!(f, "an access off its alignment"),
+            Refusal::MemoryFull => write!(f, "all page records are used"),
+            Refusal::NoRoom => write!(f, "too many output or hint bytes"),
+            Refusal::NoInput => write!(f, "no such input"),
+            Refusal::InputOffset => write!(f, "the input offset is past the end"),
+            Refusal::HintShort => write!(f, "a hint shorter than announced"),
+            Refusal::HintText => write!(f, "a hint that is not UTF-8"),
+        }
+    }
+}
+
+/// Document 01's number.
+impl From<Refusal> for u8 {
+    ghost from_gives = { λ r n. n ≡ refusal_number r };
+
+    #[tactic(auto, unfolding(crate::specs::Effects::refusal_number))]
+    fn from(r: Refusal) -> u8 {
+        match r {
             Refusal::BadMachine => 1,
             Refusal::PcMisaligned => 2,
             Refusal::Reserved => 3,
@@ -194,5 +106,112 @@ impl Refusal {
             Refusal::HintShort => 12,
             Refusal::HintText => 13,
         }
+    }
+}
+
+/// Why an instruction by itself changes nothing.
+#[derive(Clone, Copy, Debug, PartialEq, Eq)]
+pub enum Stop {
+    Refused(Refusal),
+    // SYSCALL: the step executes it.
+    Call,
+}
+
+impl From<Refusal> for Stop {
+    ghost from_gives = { λ r s. s ≡ Refused r };
+
+    fn from(r: Refusal) -> Stop {
+        Stop::Refused(r)
+    }
+}
+
+/// What an instruction does.
+pub type Effect = Result<Change, Stop>;
+
+// The eight bytes that an instruction touches, by their address.
+#[derive(Clone, Copy)]
+pub enum Touch {
+    Nothing,
+    Eight(u64),
+}
+
+impl Ins {
+    // The same instruction with these eight bytes.
+    #[tactic(auto, unfolding(crate::specs::Effects::seeing))]
+    pub(crate) fn seeing(self, mem: u64) -> Ins
+        ensures { result ≡ seeing self mem }
+    {
+        let mut i = self;
+        i.mem = mem;
+        i
+    }
+
+    // Register d gets v, hi and lo become h and l, and the program goes on with the next instruction.
+    #[tactic(auto, unfolding(crate::specs::Effects::changes))]
+    pub(crate) fn changes(self, d: u64, v: u64, h: u64, l: u64) -> Change
+        ensures { result ≡ changes self d v h l }
+    {
+        Change {
+            dest: d,
+            value: v,
+            pc: self.next,
+            next: bits::plus(self.next, 4),
+            hi: h,
+            lo: l,
+            store: None,
+        }
+    }
+
+    pub(crate) fn to_register(self, d: u64, v: u64) -> Change
+        ensures { result ≡ to_register self d v }
+    {
+        self.changes(d, v, self.hi, self.lo)
+    }
+
+    pub(crate) fn to_rd(self, v: u64) -> Change
+        ensures { result ≡ to_rd self v }
+    {
+        self.to_register(RType::decode(self.word).rd, v)
+    }
+
+    pub(crate) fn to_rt(self, v: u64) -> Change
+        ensures { result ≡ to_rt self v }
+    {
+        self.to_register(IType::decode(self.word).rt, v)
+    }
+
+    // The eight bytes become m, and register d gets v.
+    #[tactic(auto, unfolding(crate::specs::Effects::storing))]
+    pub(crate) fn storing(self, d: u64, v: u64, m: u64) -> Change
+        ensures { result ≡ storing self d v m }
+    {
+        Change {
+            dest: d,
+            value: v,
+            pc: self.next,
+            next: bits::plus(self.next, 4),
+            hi: self.hi,
+            lo: self.lo,
+            store: Some(m),
+        }
+    }
+
+    // A jump or branch to t with its link, refused in a delay slot (handle_jump, handle_branch).
+    #[tactic(auto, unfolding(crate::specs::Effects::going))]
+    pub(crate) fn going(self, d: u64, v: u64, t: u64) -> Effect
+        ensures { result ≡ going self d v t }
+    {
+        if self.next != bits::plus(self.pc, 4) {
+            return Err(Stop::Refused(Refusal::DelaySlot));
+        }
+        Ok(Change {
+            dest: d,
+            value: v,
+            pc: self.next,
+            next: t,
+            hi: self.hi,
+            lo: self.lo,
+            store: None,
+        })
     }
 }

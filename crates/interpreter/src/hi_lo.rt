@@ -1,11 +1,11 @@
 // Results to hi and lo.
-ghost use Rattle.std.specs.Prelude.{◌≡◌, ◌^◌, ◌<◌};
+ghost use Rattle.std.specs.Prelude.{◌≡◌, ◌^◌, ◌<◌, ◌≤◌};
 ghost use Rattle.interpreter.specs.Words.{word, magnitude, signed, negative};
 ghost use Rattle.interpreter.specs.Isa.{DIV, DIVU, DDIV, DDIVU};
 ghost use Rattle.interpreter.specs.HiLo.{words, negated, mult, multu, dmult, dmultu, div, divu, ddiv, ddivu, overflows, to_hi_lo, hi_lo};
 
 use crate::bits;
-use crate::effect::{Effect, Ins, Refusal};
+use crate::effect::{Change, Effect, Ins, Refusal, Stop};
 use crate::isa::RType;
 
 #[derive(Clone, Copy)]
@@ -19,38 +19,21 @@ fn words(p: u64) -> Pair
     ensures { result ≡ words p }
 {
     Pair {
-        hi: bits::sext_word(p / 0x1_0000_0000),
-        lo: bits::sext_word(p),
+        hi: bits::sext::<32>(p / 0x1_0000_0000),
+        lo: bits::sext::<32>(p),
     }
 }
 
-fn negative_word(w: u64) -> bool
-    ensures { result ≡ negative 32 w }
+// The distance from 0 of a number of N bits.
+fn magnitude<const N: u64>(x: u64) -> u64
+    requires { (0 < N) × (N ≤ 64) × (x < 2 ^ N) }
+    ensures { result ≡ magnitude N x }
 {
-    0x8000_0000 <= w
+    let sign = 1u64 << (N - 1);
+    if sign <= x { sign - (x - sign) } else { x }
 }
 
-fn magnitude_word(w: u64) -> u64
-    requires { w < 2 ^ 32 }
-    ensures { result ≡ magnitude 32 w }
-{
-    if 0x8000_0000 <= w {
-        0x1_0000_0000 - w
-    } else {
-        w
-    }
-}
-
-fn magnitude_doubleword(x: u64) -> u64
-    ensures { result ≡ magnitude 64 x }
-{
-    if 0x8000_0000_0000_0000 <= x {
-        u64::MAX - x + 1
-    } else {
-        x
-    }
-}
-
+#[tactic(auto, unfolding(crate::specs::Words::signed))]
 fn signed_doubleword(s: bool, m: u64) -> u64
     ensures { result ≡ signed 64 s m }
 {
@@ -61,15 +44,17 @@ fn signed_doubleword(s: bool, m: u64) -> u64
     }
 }
 
+#[tactic(auto, using(crate::proofs::Laws::Signed::product_le), unfolding(crate::specs::HiLo::mult, crate::specs::Words::product))]
 pub(crate) fn mult(x: u64, y: u64) -> Pair
     ensures { result ≡ mult x y }
 {
     let a = x % 0x1_0000_0000;
     let b = y % 0x1_0000_0000;
-    let m = magnitude_word(a) * magnitude_word(b);
-    words(signed_doubleword(negative_word(a) != negative_word(b), m))
+    let m = magnitude::<32>(a) * magnitude::<32>(b);
+    words(signed_doubleword(bits::negative::<32>(a) != bits::negative::<32>(b), m))
 }
 
+#[tactic(auto, unfolding(crate::specs::HiLo::multu))]
 pub(crate) fn multu(x: u64, y: u64) -> Pair
     ensures { result ≡ multu x y }
 {
@@ -77,6 +62,7 @@ pub(crate) fn multu(x: u64, y: u64) -> Pair
 }
 
 // 128 bits by four 32-bit halves.
+#[tactic(auto, using(crate::proofs::Laws::Products::by_columns), unfolding(crate::specs::HiLo::dmultu))]
 pub(crate) fn dmultu(x: u64, y: u64) -> Pair
     ensures { result ≡ dmultu x y }
 {
@@ -94,6 +80,7 @@ pub(crate) fn dmultu(x: u64, y: u64) -> Pair
 }
 
 // The negative of 128 bits.
+#[tactic(auto, using(crate::proofs::Laws::Products::negated_none, crate::proofs::Laws::Products::negated_some))]
 fn negate(p: Pair) -> Pair
     ensures { result ≡ negated p }
 {
@@ -110,14 +97,15 @@ fn negate(p: Pair) -> Pair
 }
 
 // Rules 0 is unsigned.
+#[tactic(auto, using(crate::proofs::Laws::Products::product_minus, crate::proofs::Laws::Products::product_plus), unfolding(crate::specs::HiLo::dmult))]
 pub(crate) fn dmult(rules: u8, x: u64, y: u64) -> Pair
     ensures { result ≡ dmult rules x y }
 {
     if rules == 0 {
         return dmultu(x, y);
     }
-    let p = dmultu(magnitude_doubleword(x), magnitude_doubleword(y));
-    if bits::negative(x) != bits::negative(y) {
+    let p = dmultu(magnitude::<64>(x), magnitude::<64>(y));
+    if bits::negative::<64>(x) != bits::negative::<64>(y) {
         negate(p)
     } else {
         p
@@ -130,16 +118,17 @@ pub(crate) fn div(x: u64, y: u64) -> Pair
 {
     let a = x % 0x1_0000_0000;
     let b = y % 0x1_0000_0000;
-    let m = magnitude_word(a);
-    let n = magnitude_word(b);
-    let s = negative_word(a);
+    let m = magnitude::<32>(a);
+    let n = magnitude::<32>(b);
+    let s = bits::negative::<32>(a);
     Pair {
-        hi: bits::sext_word(signed_doubleword(s, m % n)),
-        lo: bits::sext_word(signed_doubleword(s != negative_word(b), m / n)),
+        hi: bits::sext::<32>(signed_doubleword(s, m % n)),
+        lo: bits::sext::<32>(signed_doubleword(s != bits::negative::<32>(b), m / n)),
     }
 }
 
 // Rules 0 doesn't sign-extend.
+#[tactic(auto, unfolding(crate::specs::HiLo::divu))]
 pub(crate) fn divu(rules: u8, x: u64, y: u64) -> Pair
     requires { 0 < word y }
     ensures { result ≡ divu rules x y }
@@ -150,24 +139,26 @@ pub(crate) fn divu(rules: u8, x: u64, y: u64) -> Pair
         return Pair { hi: r, lo: q };
     }
     Pair {
-        hi: bits::sext_word(r),
-        lo: bits::sext_word(q),
+        hi: bits::sext::<32>(r),
+        lo: bits::sext::<32>(q),
     }
 }
 
+#[tactic(auto, using(crate::proofs::Laws::Signed::magnitude_pos), unfolding(crate::specs::HiLo::ddiv, crate::specs::Words::remainder, crate::specs::Words::quotient))]
 pub(crate) fn ddiv(x: u64, y: u64) -> Pair
     requires { 0 < y }
     ensures { result ≡ ddiv x y }
 {
-    let m = magnitude_doubleword(x);
-    let n = magnitude_doubleword(y);
-    let s = bits::negative(x);
+    let m = magnitude::<64>(x);
+    let n = magnitude::<64>(y);
+    let s = bits::negative::<64>(x);
     Pair {
         hi: signed_doubleword(s, m % n),
-        lo: signed_doubleword(s != bits::negative(y), m / n),
+        lo: signed_doubleword(s != bits::negative::<64>(y), m / n),
     }
 }
 
+#[tactic(auto, unfolding(crate::specs::HiLo::ddivu))]
 pub(crate) fn ddivu(x: u64, y: u64) -> Pair
     requires { 0 < y }
     ensures { result ≡ ddivu x y }
@@ -178,34 +169,24 @@ pub(crate) fn ddivu(x: u64, y: u64) -> Pair
     }
 }
 
-// The least number by -1, which only rules 0 refuses.
-fn word_overflows(rules: u8, x: u64, y: u64) -> bool
-    ensures { result ≡ overflows 32 rules x y }
+// The least number of N bits by -1, which only rules 0 refuses.
+fn overflows<const N: u64>(rules: u8, x: u64, y: u64) -> bool
+    requires { (0 < N) × (N ≤ 64) }
+    ensures { result ≡ overflows N rules x y }
 {
     if rules != 0 {
         return false;
     }
-    if x != 0x8000_0000 {
+    let least = 1u64 << (N - 1);
+    if x != least {
         return false;
     }
-    y == 0xffff_ffff
-}
-
-fn overflows(rules: u8, x: u64, y: u64) -> bool
-    ensures { result ≡ overflows 64 rules x y }
-{
-    if rules != 0 {
-        return false;
-    }
-    if x != 0x8000_0000_0000_0000 {
-        return false;
-    }
-    y == u64::MAX
+    y == least - 1 + least
 }
 
 impl Ins {
     // Rules 0 writes 0 to rd as well.
-    pub(crate) fn to_hi_lo(self, p: Pair) -> Effect
+    pub(crate) fn to_hi_lo(self, p: Pair) -> Change
         ensures { result ≡ to_hi_lo self p }
     {
         if self.rules == 0 {
@@ -214,47 +195,51 @@ impl Ins {
         self.changes(0, 0, p.hi, p.lo)
     }
 
+    #[tactic(auto, unfolding(crate::specs::HiLo::hi_lo))]
     pub(crate) fn divide_words(self) -> Effect
         ensures { result ≡ hi_lo DIV self }
     {
         let x = self.rs % 0x1_0000_0000;
         let y = self.rt % 0x1_0000_0000;
         if y == 0 {
-            return Effect::Refused(Refusal::DivideByZero);
+            return Err(Stop::Refused(Refusal::DivideByZero));
         }
-        if word_overflows(self.rules, x, y) {
-            return Effect::Refused(Refusal::Overflow);
+        if overflows::<32>(self.rules, x, y) {
+            return Err(Stop::Refused(Refusal::Overflow));
         }
-        self.to_hi_lo(div(self.rs, self.rt))
+        Ok(self.to_hi_lo(div(self.rs, self.rt)))
     }
 
+    #[tactic(auto, unfolding(crate::specs::HiLo::hi_lo))]
     pub(crate) fn divide_words_unsigned(self) -> Effect
         ensures { result ≡ hi_lo DIVU self }
     {
         if self.rt % 0x1_0000_0000 == 0 {
-            return Effect::Refused(Refusal::DivideByZero);
+            return Err(Stop::Refused(Refusal::DivideByZero));
         }
-        self.to_hi_lo(divu(self.rules, self.rs, self.rt))
+        Ok(self.to_hi_lo(divu(self.rules, self.rs, self.rt)))
     }
 
+    #[tactic(auto, unfolding(crate::specs::HiLo::hi_lo))]
     pub(crate) fn divide(self) -> Effect
         ensures { result ≡ hi_lo DDIV self }
     {
         if self.rt == 0 {
-            return Effect::Refused(Refusal::DivideByZero);
+            return Err(Stop::Refused(Refusal::DivideByZero));
         }
-        if overflows(self.rules, self.rs, self.rt) {
-            return Effect::Refused(Refusal::Overflow);
+        if overflows::<64>(self.rules, self.rs, self.rt) {
+            return Err(Stop::Refused(Refusal::Overflow));
         }
-        self.to_hi_lo(ddiv(self.rs, self.rt))
+        Ok(self.to_hi_lo(ddiv(self.rs, self.rt)))
     }
 
+    #[tactic(auto, unfolding(crate::specs::HiLo::hi_lo))]
     pub(crate) fn divide_unsigned(self) -> Effect
         ensures { result ≡ hi_lo DDIVU self }
     {
         if self.rt == 0 {
-            return Effect::Refused(Refusal::DivideByZero);
+            return Err(Stop::Refused(Refusal::DivideByZero));
         }
-        self.to_hi_lo(ddivu(self.rs, self.rt))
+        Ok(self.to_hi_lo(ddivu(self.rs, self.rt)))
     }
 }

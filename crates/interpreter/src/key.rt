@@ -11,6 +11,7 @@ pub(crate) struct Key {
 }
 
 impl Key {
+    #[tactic(auto, unfolding(crate::specs::Parts::key_of))]
     pub(crate) fn of(word: u64) -> u64
         ensures { result ≡ key_of word }
     {

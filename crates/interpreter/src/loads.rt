@@ -1,12 +1,12 @@
 // Loads as functions of the aligned eight bytes m, the offset o in them, and t, the value of rt.
 ghost use Rattle.std.specs.Prelude.{◌≡◌, ◌^◌, ◌<◌};
-ghost use Rattle.interpreter.specs.OpcodeMap.{find, loads};
-ghost use Rattle.interpreter.specs.Loads.{address_of, aligned, byte_at, half_at, word_at, lwl, lwr, ldl, ldr, loaded_by};
+ghost use Rattle.interpreter.specs.Loads.{address_of, aligned, byte_at, half_at, word_at, lwl, lwr, ldl, ldr};
 
 use crate::bits;
-use crate::effect::{Ins, Outcome, Refusal};
-use crate::isa::{IType, Opcode};
+use crate::effect::{Ins, Refusal};
+use crate::isa::IType;
 
+// A function for each size: over the size n the shift is 64 - 8 * n - 8 * (o / n * n), which is no plainer, here and in stores.rt.
 pub(crate) fn byte_at(m: u64, o: u64) -> u64
     requires { o < 8 }
     ensures { result ≡ byte_at m o }
@@ -29,6 +29,7 @@ pub(crate) fn word_at(m: u64, o: u64) -> u64
 }
 
 // Rules 0 always uses bytes 4 to 7.
+#[tactic(auto, using(crate::proofs::Laws::Loads::lwl_low, crate::proofs::Laws::Loads::lwl_word))]
 pub(crate) fn lwl(rules: u8, m: u64, o: u64, t: u64) -> u64
     requires { o < 8 }
     ensures { result ≡ lwl rules m o t }
@@ -36,12 +37,13 @@ pub(crate) fn lwl(rules: u8, m: u64, o: u64, t: u64) -> u64
     let up = 8 * (o % 4);
     let low = t % (1u64 << up);
     if rules == 0 {
-        return bits::sext_word((m << up) % 0x1_0000_0000 + low);
+        return bits::sext::<32>((m << up) % 0x1_0000_0000 + low);
     }
-    bits::sext_word((word_at(m, o) << up) % 0x1_0000_0000 + low)
+    bits::sext::<32>((word_at(m, o) << up) % 0x1_0000_0000 + low)
 }
 
 // Rules 0 shifts the whole doubleword, so that bytes before the word come in above.
+#[tactic(auto, using(crate::proofs::Laws::Loads::lwr_or, crate::proofs::Laws::Loads::lwr_word))]
 pub(crate) fn lwr(rules: u8, m: u64, o: u64, t: u64) -> u64
     requires { o < 8 }
     ensures { result ≡ lwr rules m o t }
@@ -50,9 +52,9 @@ pub(crate) fn lwr(rules: u8, m: u64, o: u64, t: u64) -> u64
     let size = 8 * (o % 4) + 8;
     let kept = (t % 0x1_0000_0000) >> size << size;
     if rules == 0 {
-        return bits::sext_word((m >> down) % 0x1_0000_0000 | kept);
+        return bits::sext::<32>((m >> down) % 0x1_0000_0000 | kept);
     }
-    bits::sext_word(kept + (word_at(m, o) >> down))
+    bits::sext::<32>(kept + (word_at(m, o) >> down))
 }
 
 pub(crate) fn ldl(m: u64, o: u64, t: u64) -> u64
@@ -64,6 +66,7 @@ pub(crate) fn ldl(m: u64, o: u64, t: u64) -> u64
 }
 
 // At offset 7 rules 0 ors memory with rt.
+#[tactic(auto, using(crate::proofs::Laws::Loads::ldr_fits, crate::proofs::Laws::Loads::ldr_or, crate::proofs::Laws::Loads::ldr_all, crate::proofs::Laws::Loads::ldr_part))]
 pub(crate) fn ldr(rules: u8, m: u64, o: u64, t: u64) -> u64
     requires { o < 8 }
     ensures { result ≡ ldr rules m o t }
@@ -79,45 +82,23 @@ pub(crate) fn ldr(rules: u8, m: u64, o: u64, t: u64) -> u64
 }
 
 // An access of n bytes: rules 1 refuses it off its alignment.
-pub(crate) fn aligned(i: Ins, n: u64, v: u64) -> Outcome
+#[tactic(auto, unfolding(crate::specs::Loads::aligned))]
+pub(crate) fn aligned(i: Ins, n: u64, v: u64) -> Result<u64, Refusal>
     requires { 0 < n }
     ensures { result ≡ aligned i n v }
 {
     if i.rules != 0 {
         if i.address() % n != 0 {
-            return Outcome::Trapped(Refusal::AddressError);
+            return Err(Refusal::AddressError);
         }
     }
-    Outcome::Value(v)
+    Ok(v)
 }
 
 impl Ins {
     pub(crate) fn address(self) -> u64
         ensures { result ≡ address_of self.word self.rs }
     {
-        bits::plus(self.rs, bits::sext_half(IType::decode(self.word).imm))
-    }
-}
-
-pub(crate) fn load(i: Ins, op: u64) -> Outcome
-    ensures { result ≡ loaded_by (find op loads) i }
-{
-    let m = i.mem;
-    let o = i.address() % 8;
-    match op {
-        Opcode::LDL => Outcome::Value(ldl(m, o, i.rt)),
-        Opcode::LDR => Outcome::Value(ldr(i.rules, m, o, i.rt)),
-        Opcode::LB => Outcome::Value(bits::sext_byte(byte_at(m, o))),
-        Opcode::LH => aligned(i, 2, bits::sext_half(half_at(m, o))),
-        Opcode::LWL => Outcome::Value(lwl(i.rules, m, o, i.rt)),
-        Opcode::LW => aligned(i, 4, bits::sext_word(word_at(m, o))),
-        Opcode::LBU => Outcome::Value(byte_at(m, o)),
-        Opcode::LHU => aligned(i, 2, half_at(m, o)),
-        Opcode::LWR => Outcome::Value(lwr(i.rules, m, o, i.rt)),
-        Opcode::LWU => aligned(i, 4, word_at(m, o)),
-        Opcode::LL => aligned(i, 4, bits::sext_word(word_at(m, o))),
-        Opcode::LLD => aligned(i, 8, m),
-        Opcode::LD => aligned(i, 8, m),
-        _ => Outcome::Unknown,
+        bits::plus(self.rs, bits::sext::<16>(IType::decode(self.word).imm))
     }
 }

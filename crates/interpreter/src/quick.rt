@@ -10,7 +10,7 @@ ghost use Rattle.interpreter.specs.Parts.{Shows, Both, covered, core_of, cpu_wit
 ghost use Rattle.interpreter.specs.declared.window.Window.{Window};
 ghost use Rattle.interpreter.specs.declared.effect.Touch.TheVariants.{Nothing, Eight};
 
-use crate::effect::{Change, Effect, Touch};
+use crate::effect::{Change, Touch};
 use crate::isa::Opcode;
 use crate::key::Key;
 use crate::state::Cpu;
@@ -110,8 +110,8 @@ fn settle(w: Window, pages: &mut [u8], used: usize, t: Touch, e: Change)
     match t {
         Touch::Nothing => {}
         Touch::Eight(a) => {
-            if e.store {
-                w.put_doubleword(pages, used, a, e.mem);
+            if let Some(m) = e.store {
+                w.put_doubleword(pages, used, a, m);
             }
         }
     }
@@ -168,7 +168,7 @@ fn rarely(
     ensures { Turned c k word used regs.old pages.old result regs.new pages.new }
 {
     let effect = cpu::kernel(step::ins_of(c.with_core(k), regs, word, mem));
-    let Effect::Done(e) = effect else {
+    let Ok(e) = effect else {
         return Turn {
             made: false,
             core: k,
@@ -204,7 +204,7 @@ fn slowly(
     let mem = touched(w, pages, used, t);
     let i = step::ins_of(c.with_core(k), regs, word, mem);
     let effect = frequent::elsewhere(i, Opcode::decode(word));
-    let Effect::Done(e) = effect else {
+    let Some(e) = effect else {
         return rarely(c, k, word, regs, pages, used, d, t, mem);
     };
     complete(regs, pages, used, d, t, e)
@@ -226,12 +226,12 @@ fn once(
     let i = step::ins_of(c.with_core(k), regs, word, 0);
     let key = Key::of(word);
     let plain = frequent::plain(i, key);
-    if let Effect::Done(e) = plain {
+    if let Some(e) = plain {
         return finish(regs, data, e);
     }
     let w = data.near;
     let kept = frequent::kept(i, w, pages, used, key);
-    if let Effect::Done(e) = kept {
+    if let Some(e) = kept {
         let t = Touch::Eight(i.address() / 8 * 8);
         return complete(regs, pages, used, data, t, e);
     }

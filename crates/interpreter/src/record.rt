@@ -9,7 +9,7 @@ ghost use Rattle.interpreter.specs.Recording.{recorded, recorded_def};
 ghost use Rattle.interpreter.specs.Parts.{seen_call, seen, recording_as};
 ghost use Rattle.interpreter.specs.declared.effect.Touch.TheVariants.{Eight};
 
-use crate::effect::{Effect, Touch};
+use crate::effect::{Stop, Touch};
 use crate::linux::Call;
 use crate::state::{Cpu, State};
 use crate::step::Finished;
@@ -111,9 +111,11 @@ fn look(c: Cpu, regs: &[u64; 32], word: u64) -> Seen
 {
     let effect = cpu::kernel(step::ins_of(c, regs, word, 0));
     match effect {
-        Effect::Call => see_call(c, regs),
-        Effect::Refused(n) => see(false, step::touch_of(regs, word)),
-        Effect::Done(e) => see(false, step::touch_of(regs, word)),
+        Ok(e) => see(false, step::touch_of(regs, word)),
+        Err(stop) => match stop {
+            Stop::Refused(n) => see(false, step::touch_of(regs, word)),
+            Stop::Call => see_call(c, regs),
+        },
     }
 }
 

@@ -1,14 +1,14 @@
 // The step that a record shows (document 01, "The step record"): the same kernel and the same calls, on nothing but a state,
 // the instruction and the touched eight bytes.
 ghost use Rattle.std.specs.Prelude.{◌≡◌, ℕ, ◌<◌, List};
-ghost use Rattle.interpreter.specs.Plan.{eight_at};
+ghost use Rattle.interpreter.specs.Plan.{store_of, eight_at};
 ghost use Rattle.interpreter.specs.Ideal.{remember};
 ghost use Rattle.interpreter.specs.Shown.{shown_at, shown, step_shown};
-ghost use Rattle.interpreter.specs.Parts.{store_of, call_shown, change_shown};
+ghost use Rattle.interpreter.specs.Parts.{call_shown, change_shown};
 ghost use Rattle.interpreter.specs.declared.effect.Touch.TheVariants.{Nothing};
 ghost use Rattle.interpreter.specs.declared.shown.Made.TheVariants.{Stepped};
 
-use crate::effect::{Change, Effect, Refusal, Touch};
+use crate::effect::{Change, Refusal, Stop, Touch};
 use crate::linux::Call;
 use crate::state::Cpu;
 use crate::step::Next;
@@ -36,17 +36,12 @@ fn given(t: Touch, x: u64) -> u64
 }
 
 // And what they are afterwards.
-fn kept(t: Touch, x: u64, store: bool, mem: u64) -> u64
-    ensures { result ≡ eight_at (remember (shown_at t x) (store_of t store mem)) t }
+fn kept(t: Touch, x: u64, store: Option<u64>) -> u64
+    ensures { result ≡ eight_at (remember (shown_at t x) (store_of t store)) t }
 {
     match t {
         Touch::Nothing => 0,
-        Touch::Eight(a) => {
-            if store {
-                return mem;
-            }
-            x
-        }
+        Touch::Eight(a) => store.unwrap_or(x),
     }
 }
 
@@ -85,7 +80,7 @@ fn complete(c: Cpu, regs: &mut [u64; 32], t: Touch, x: u64, e: Change) -> Made
     ensures { (k : List ℕ) → shown result regs.new k ≡ change_shown c regs.old k t x e }
 {
     step::set_reg(regs, e.dest, e.value);
-    Made::Stepped(c.changed(e), t, kept(t, x, e.store, e.mem))
+    Made::Stepped(c.changed(e), t, kept(t, x, e.store))
 }
 
 // The step of this state by this instruction, where the touched eight bytes are x.
@@ -96,8 +91,10 @@ pub fn step_shown(c: Cpu, regs: &mut [u64; 32], key: &mut [u8; 32], word: u64, x
     let t = step::touch_of(regs, word);
     let effect = cpu::kernel(step::ins_of(n, regs, word, given(t, x)));
     match effect {
-        Effect::Refused(r) => Made::Refused(r),
-        Effect::Call => call(n, regs, key, x),
-        Effect::Done(e) => complete(n, regs, t, x, e),
+        Ok(e) => complete(n, regs, t, x, e),
+        Err(stop) => match stop {
+            Stop::Refused(r) => Made::Refused(r),
+            Stop::Call => call(n, regs, key, x),
+        },
     }
 }

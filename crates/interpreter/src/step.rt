@@ -10,7 +10,7 @@ ghost use Rattle.interpreter.specs.Parts.{after, doing, refusing};
 ghost use Rattle.interpreter.specs.declared.effect.Refusal.TheVariants.{BadMachine};
 ghost use Rattle.interpreter.specs.declared.effect.Touch.TheVariants.{Eight};
 
-use crate::effect::{Change, Effect, Ins, Refusal, Touch};
+use crate::effect::{Change, Ins, Refusal, Stop, Touch};
 use crate::isa::IType;
 use crate::state::{Cpu, State};
 use crate::{cpu, hint, syscall};
@@ -47,7 +47,7 @@ impl Answer {
             Answer::Wrote(stream, count) => said(1, stream, count),
             Answer::Hint(count) => said(2, count, 0),
             Answer::Exited(code) => said(3, code as u64, 0),
-            Answer::Refused(n) => said(4, n.number() as u64, 0),
+            Answer::Refused(n) => said(4, u8::from(n) as u64, 0),
         }
     }
 }
@@ -136,8 +136,8 @@ fn settle(pages: &mut [u8], used: usize, t: Touch, e: Change) -> Result<usize, S
     match t {
         Touch::Nothing => Ok(used),
         Touch::Eight(a) => {
-            if e.store {
-                return memory::set_doubleword(pages, used, a, e.mem);
+            if let Some(m) = e.store {
+                return memory::set_doubleword(pages, used, a, m);
             }
             Ok(used)
         }
@@ -243,9 +243,11 @@ fn execute(
     let mem = touched(pages, used, t);
     let effect = cpu::kernel(ins_of(c, regs, word, mem));
     match effect {
-        Effect::Refused(n) => refuse(c, used, n),
-        Effect::Call => syscall::call(c, regs, key, pages, used, hint, output, index, data),
-        Effect::Done(e) => complete(c, regs, pages, used, t, e),
+        Ok(e) => complete(c, regs, pages, used, t, e),
+        Err(stop) => match stop {
+            Stop::Refused(n) => refuse(c, used, n),
+            Stop::Call => syscall::call(c, regs, key, pages, used, hint, output, index, data),
+        },
     }
 }
 

@@ -26,7 +26,7 @@ pub fn answer(rt: &impl Print, a: Answer) -> io::Result<()> {
         Answer::Hint(count) => print!(rt; "Hint {count}"),
         Answer::Exited(code) => print!(rt; "Exited {code}"),
         Answer::Refused(r) => {
-            let number = r.number();
+            let number = u8::from(r);
             print!(rt; "Refused {number}")
         }
     }

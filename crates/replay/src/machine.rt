@@ -216,7 +216,7 @@ fn same_answer(a: Answer, f: Front) -> bool {
         Answer::Wrote(stream, count) => said(f, Front::WROTE, stream, count),
         Answer::Hint(count) => said(f, Front::HINT, count, 0),
         Answer::Exited(code) => said(f, Front::EXITED, code as u64, 0),
-        Answer::Refused(r) => said(f, Front::REFUSED, r.number() as u64, 0),
+        Answer::Refused(r) => said(f, Front::REFUSED, u8::from(r) as u64, 0),
     }
 }
 

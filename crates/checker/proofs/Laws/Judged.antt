@@ -1,4 +1,5 @@
 -- How the parts of the checker meet its definition.
+use Rattle.std.specs.Prelude.{Ok, Err}
 use mathlib.Core.Path.{◌≡◌, refl, sym, ap, ◌∙◌}
 use mathlib.Core.Bool.{Bool, true, false, not, cond}
 use mathlib.Core.List.{List}
@@ -10,8 +11,8 @@ use borrow.Author.Tests.{eq-eqb, ne_eqb, le-leb}
 use Rattle.pages.specs.Bytes.{cell, big}
 use Rattle.pages.specs.Calls.{number_at}
 use Rattle.pages.proofs.Laws.Places.{number_fits}
-use Rattle.interpreter.specs.declared.effect.Effect.{Effect}
-use Rattle.interpreter.specs.declared.effect.Effect.TheVariants.{Refused as RefusedBy, Call as CallBy, Done}
+use Rattle.interpreter.specs.Effects.{Effect}
+use Rattle.interpreter.specs.declared.effect.Stop.TheVariants.{Refused as RefusedBy, Call as CallBy}
 use Rattle.interpreter.specs.declared.effect.Refusal.{Refusal}
 use Rattle.interpreter.specs.declared.effect.Touch.{Touch}
 use Rattle.interpreter.specs.declared.effect.Touch.TheVariants.{Nothing, Eight}
@@ -116,9 +117,9 @@ data Said (r : List ℕ) (m : Made) (l j : List ℕ) : Type 0 where
       → l ≡ d.regs → j ≡ d.key → Said r m l j
 
 pub goes_on : (e : Effect) → refuses e ≡ false → unrefused e ≡ true
-goes_on (RefusedBy n) q = no_true q
-goes_on CallBy q = refl
-goes_on (Done c) q = refl
+goes_on (Err (RefusedBy n)) q = no_true q
+goes_on (Err CallBy) q = refl
+goes_on (Ok c) q = refl
 
 module _ (r : List ℕ) where
   step_made : step_shown (cpu_of (old_in r)) (old_in r).regs (old_in r).key (word_in r) (old_eight r)
@@ -145,11 +146,11 @@ module _ (r : List ℕ) where
 
     said_by : (e : Effect) (b : Bool) → effect_in r ≡ e → wide_in r ≡ b → shown m l j ≡ does_as e b (plan_in r) → Said r m l j
     unfolding refused_in
-    said_by (RefusedBy n) b ye yb q = stops (ap refuses ye) (ap kind_of q)
-    said_by CallBy true ye yb q = moves (ap refuses ye) yb (ap kind_of q)
-    said_by (Done f) true ye yb q = moves (ap refuses ye) yb (ap kind_of q)
-    said_by CallBy false ye yb q = let e = ap refuses ye in stepped e yb (narrow_found e yb) q
-    said_by (Done f) false ye yb q = let e = ap refuses ye in stepped e yb (narrow_found e yb) q
+    said_by (Err (RefusedBy n)) b ye yb q = stops (ap refuses ye) (ap kind_of q)
+    said_by (Err CallBy) true ye yb q = moves (ap refuses ye) yb (ap kind_of q)
+    said_by (Ok f) true ye yb q = moves (ap refuses ye) yb (ap kind_of q)
+    said_by (Err CallBy) false ye yb q = let e = ap refuses ye in stepped e yb (narrow_found e yb) q
+    said_by (Ok f) false ye yb q = let e = ap refuses ye in stepped e yb (narrow_found e yb) q
 
     said : shown m l j ≡ step_shown (cpu_of (old_in r)) (old_in r).regs (old_in r).key (word_in r) (old_eight r) → Said r m l j
     said q = said_by (effect_in r) (wide_in r) refl refl (q ∙ step_made)

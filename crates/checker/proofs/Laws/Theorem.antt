@@ -1,4 +1,5 @@
 -- The theorems of the checker (specs/Statement.antt).
+use Rattle.std.specs.Prelude.{Ok, Err}
 use mathlib.Core.Path.{◌≡◌, refl, sym, ap, subst, ◌∙◌}
 use mathlib.Core.Bool.{Bool, true, false, ◌&&◌, cond}
 use mathlib.Core.List.{List, []}
@@ -14,8 +15,8 @@ use Rattle.pages.proofs.Laws.Runs.{length_row, cell_row, row_bytes}
 use Rattle.pages.proofs.Laws.Numbers.{big_ext}
 use Rattle.pages.proofs.Laws.Places.{bytes_big}
 use Rattle.pages.proofs.Laws.Meaning.{write_among, write_lt, write_outside}
-use Rattle.interpreter.specs.declared.effect.Effect.{Effect}
-use Rattle.interpreter.specs.declared.effect.Effect.TheVariants.{Refused as RefusedBy, Call as CallBy, Done}
+use Rattle.interpreter.specs.Effects.{Effect}
+use Rattle.interpreter.specs.declared.effect.Stop.TheVariants.{Refused as RefusedBy, Call as CallBy}
 use Rattle.interpreter.specs.declared.effect.Refusal.{Refusal}
 use Rattle.interpreter.specs.declared.effect.Touch.{Touch}
 use Rattle.interpreter.specs.declared.effect.Touch.TheVariants.{Nothing, Eight}
@@ -251,7 +252,7 @@ new_zero r k Nothing p h = sym (eqb-true (new_eight r) 0 (both {a = eqb (address
 new_zero r k (Eight a) p h = h
 
 module _ (r : List ℕ) (b : Bytes (cell r)) (f : Form r) (m : Memory) (h : Holds r m) (x d g : List ℕ) (gs : Gives r m x d g) where
-  stops_not : (n : Refusal) → effect_in r ≡ RefusedBy n → ⊥
+  stops_not : (n : Refusal) → effect_in r ≡ Err (RefusedBy n) → ⊥
   unfolding effect_in wide_in plan_in follow
   stops_not n e =
       gs.unrefused n
@@ -264,9 +265,9 @@ module _ (r : List ℕ) (b : Bytes (cell r)) (f : Form r) (m : Memory) (h : Hold
   carried_out = go (effect_in r) refl
     where
       go : (e : Effect) → effect_in r ≡ e → refuses e ≡ false
-      go (RefusedBy n) q = absurd (stops_not n q)
-      go CallBy q = refl
-      go (Done c) q = refl
+      go (Err (RefusedBy n)) q = absurd (stops_not n q)
+      go (Err CallBy) q = refl
+      go (Ok c) q = refl
 
   given : Found (Narrow (old_in r).regs (old_in r).key (touch_in r)) (plan_in r) → gives r (plan_in r) ≡ true
   given (found w y n) =

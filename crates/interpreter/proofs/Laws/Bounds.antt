@@ -1,4 +1,5 @@
 -- What an instruction and a step leave is within 64 bits, and an instruction by itself is refused only with 2 to 7.
+use Rattle.std.specs.Prelude.{Result, Ok, Err, IfSome}
 use Rattle.std.proofs.Common.{◌≡◌, ℕ, zero, suc, ◌+◌, ◌-◌, ◌*◌, ◌/◌, ◌%◌, ◌^◌, ◌<◌, ◌≤◌, min, max, Bool, true, false, cond, not, ◌&&◌, eqb, ltb, lt_of_lt_of_le, lt_of_le_of_lt, mod-lt, div-le_self, arith, lit<, lit≤, pow_pos, pow_mono, shr_lt}
 use native.Mathlib.Nat.{mod-le, pow-le-pow_right}
 use lib.Count.{count_leading_zeros, leading_le}
@@ -8,7 +9,7 @@ use Rattle.pages.proofs.Laws.Numbers.{bytes_bytes}
 use Rattle.interpreter.specs.Words.{word, plus, sext, sign_extend, less, bitwise, and, or, xor, magnitude, signed, quotient, remainder, product}
 use Rattle.interpreter.specs.Isa.{shamt_of, imm_of, rd_of, rt_of, Alu, SLL, SRL, SRA, SLLV, SRLV, SRAV, DSLL, DSRL, DSRA, DSLL32, DSRL32, DSRA32, DSLLV, DSRLV, DSRAV, ADD, ADDU, SUB, SUBU, DADD, DADDU, DSUB, DSUBU, AND, OR, XOR, NOR, SLT, SLTU, MFHI, MFLO, MUL, CLZ, CLO, DCLZ, Imm, ADDI, ADDIU, SLTI, SLTIU, ANDI, ORI, XORI, LUI, DADDI, DADDIU, HiLo, MTHI, MTLO, MULT, MULTU, DMULT, DMULTU, DIV, DIVU, DDIV, DDIVU, Load, LB, LBU, LH, LHU, LW, LWU, LL, LD, LLD, LWL, LWR, LDL, LDR, Store, SB, SH, SW, SD, SWL, SWR, SDL, SDR, Conditional, SC, SCD, Branch, BEQ, BNE, BLEZ, BGTZ, BLTZ, BGEZ, BGEZAL, Jump, J, JAL, JR, JALR, Other, MOVZ, MOVN, SYNC, SYSCALL, Instruction, alu, imm, hilo, load, store, conditional, branch, jump, other, reserved, reserved_branch}
 use Rattle.interpreter.specs.OpcodeMap.{decode}
-use Rattle.interpreter.specs.Effects.{refusal_number, changes, storing, going, to_register}
+use Rattle.interpreter.specs.Effects.{refusal_number, changes, storing, going, to_register, Effect}
 use Rattle.interpreter.specs.Alu.{shift_left, shift_right, shift_signed, shift_signed_by, double_left, double_right, double_signed, sum, difference, mul, nor, leading_zeros32, leading_ones32, result, immediate}
 use Rattle.interpreter.specs.HiLo.{pair, doublewords, mult, multu, dmult, dmultu, div, divu, ddiv, ddivu, overflows, to_hi_lo, dividing, hi_lo}
 use Rattle.interpreter.specs.Loads.{offset_of, address_of, aligned, byte, byte_at, half_at, word_at, lwl, lwr, ldl, ldr, loaded}
@@ -17,10 +18,7 @@ use Rattle.interpreter.specs.Kernel.{taken, branch_to, branching, region, jumpin
 use Rattle.interpreter.specs.declared.hi_lo.Pair.{Pair}
 use Rattle.interpreter.specs.declared.effect.Ins.{Ins}
 use Rattle.interpreter.specs.declared.effect.Change.{Change}
-use Rattle.interpreter.specs.declared.effect.Effect.{Effect}
-use Rattle.interpreter.specs.declared.effect.Effect.TheVariants.{Refused, Call, Done}
-use Rattle.interpreter.specs.declared.effect.Outcome.{Outcome}
-use Rattle.interpreter.specs.declared.effect.Outcome.TheVariants.{Value, Trapped, Unknown}
+use Rattle.interpreter.specs.declared.effect.Stop.TheVariants.{Refused, Call}
 use Rattle.interpreter.specs.declared.effect.Refusal.{Refusal}
 use Rattle.interpreter.specs.declared.effect.Refusal.TheVariants.{Reserved, DelaySlot, DivideByZero, AddressError}
 use Rattle.interpreter.proofs.Laws.Powers.{product_small}
@@ -104,7 +102,7 @@ pub record Bounded (e : Change) : Type 0 where
   pub next : e.next < 2 ^ 64
   pub hi : e.hi < 2 ^ 64
   pub lo : e.lo < 2 ^ 64
-  pub mem : e.mem < 2 ^ 64
+  pub store : IfSome e.store (λ m. m < 2 ^ 64)
 
 -- ---- results of registers and immediates
 
@@ -263,32 +261,31 @@ abbrev Own : Refusal → Type 0
 Own n = (2 ≤ refusal_number n) × (refusal_number n ≤ 7)
 
 abbrev Right : Ins → Effect → Type 0
-Right i (Refused n) = Own n
-Right i Call = record {}
-Right i (Done e) = Small i → Bounded e
+Right i (Err (Refused n)) = Own n
+Right i (Err Call) = record {}
+Right i (Ok e) = Small i → Bounded e
 
 data Fine (i : Ins) (e : Effect) : Type 0 where
   fine : Right i e → Fine i e
 
 -- the same of what a load or a store answers
-abbrev RightOutcome : Ins → Outcome → Type 0
-RightOutcome i (Value v) = Small i → v < 2 ^ 64
-RightOutcome i (Trapped n) = Own n
-RightOutcome i Unknown = record {}
+abbrev RightValue : Ins → Result ℕ Refusal → Type 0
+RightValue i (Ok v) = Small i → v < 2 ^ 64
+RightValue i (Err n) = Own n
 
-data FineOutcome (i : Ins) (o : Outcome) : Type 0 where
-  fine_outcome : RightOutcome i o → FineOutcome i o
+data FineValue (i : Ins) (o : Result ℕ Refusal) : Type 0 where
+  fine_value : RightValue i o → FineValue i o
 
 module _ (i : Ins) where
-  reserved_fine : Fine i (Refused Reserved)
+  reserved_fine : Fine i (Err (Refused Reserved))
   unfolding refusal_number
   reserved_fine = fine (lit≤ tt, lit≤ tt)
 
-  delay_fine : Fine i (Refused DelaySlot)
+  delay_fine : Fine i (Err (Refused DelaySlot))
   unfolding refusal_number
   delay_fine = fine (lit≤ tt, lit≤ tt)
 
-  zero_fine : Fine i (Refused DivideByZero)
+  zero_fine : Fine i (Err (Refused DivideByZero))
   unfolding refusal_number
   zero_fine = fine (lit≤ tt, lit≤ tt)
 
@@ -296,32 +293,36 @@ module _ (i : Ins) where
   cond_fine true p q = p
   cond_fine false p q = q
 
-  changes_fine : (d v h l : ℕ) → (Small i → v < 2 ^ 64) → (Small i → h < 2 ^ 64) → (Small i → l < 2 ^ 64) → Fine i (changes i d v h l)
+  pick_fine : (t : Bool) {a b : Change} → Fine i (Ok a) → Fine i (Ok b) → Fine i (Ok (cond t a b))
+  pick_fine true p q = p
+  pick_fine false p q = q
+
+  changes_fine : (d v h l : ℕ) → (Small i → v < 2 ^ 64) → (Small i → h < 2 ^ 64) → (Small i → l < 2 ^ 64) → Fine i (Ok (changes i d v h l))
   unfolding changes
   changes_fine d v h l p q r =
-      fine (λ s. record { value = p s; pc = s.next; next = wrapped _; hi = q s; lo = r s; mem = s.mem })
+      fine (λ s. record { value = p s; pc = s.next; next = wrapped _; hi = q s; lo = r s; store = tt })
 
-  register_fine : (d v : ℕ) → (Small i → v < 2 ^ 64) → Fine i (to_register i d v)
+  register_fine : (d v : ℕ) → (Small i → v < 2 ^ 64) → Fine i (Ok (to_register i d v))
   register_fine d v p = changes_fine d v i.hi i.lo p (λ s. s.hi) (λ s. s.lo)
 
-  none_fine : Fine i (to_register i 0 0)
+  none_fine : Fine i (Ok (to_register i 0 0))
   none_fine = register_fine 0 0 (λ s. lit< tt)
 
-  storing_fine : (d v m : ℕ) → v < 2 ^ 64 → (Small i → m < 2 ^ 64) → Fine i (storing i d v m)
+  storing_fine : (d v m : ℕ) → v < 2 ^ 64 → (Small i → m < 2 ^ 64) → Fine i (Ok (storing i d v m))
   unfolding storing
   storing_fine d v m p q =
-      fine (λ s. record { value = p; pc = s.next; next = wrapped _; hi = s.hi; lo = s.lo; mem = q s })
+      fine (λ s. record { value = p; pc = s.next; next = wrapped _; hi = s.hi; lo = s.lo; store = q s })
 
   going_fine : (d v t : ℕ) → v < 2 ^ 64 → (Small i → t < 2 ^ 64) → Fine i (going i d v t)
   unfolding going
   going_fine d v t p q =
       cond_fine (eqb i.next (plus i.pc 4))
-      (fine (λ s. record { value = p; pc = s.next; next = q s; hi = s.hi; lo = s.lo; mem = s.mem }))
+      (fine (λ s. record { value = p; pc = s.next; next = q s; hi = s.hi; lo = s.lo; store = tt }))
       delay_fine
 
   -- ---- results to hi and lo
 
-  pair_fine : (p : Pair) → (Small i → Both p) → Fine i (to_hi_lo i p)
+  pair_fine : (p : Pair) → (Small i → Both p) → Fine i (Ok (to_hi_lo i p))
   pair_fine p b = changes_fine _ 0 p.hi p.lo (λ s. lit< tt) (λ s. (b s).0) (λ s. (b s).1)
 
   dividing_fine : (n x y : ℕ) (p : Pair) → (Small i → Both p) → Fine i (dividing n i x y p)
@@ -346,18 +347,18 @@ module _ (i : Ins) where
 
   -- ---- loads and stores
 
-  value_fine : (v : ℕ) → (Small i → v < 2 ^ 64) → FineOutcome i (Value v)
-  value_fine v p = fine_outcome p
+  value_fine : (v : ℕ) → (Small i → v < 2 ^ 64) → FineValue i (Ok v)
+  value_fine v p = fine_value p
 
-  aligned_fine : (n v : ℕ) → (Small i → v < 2 ^ 64) → FineOutcome i (aligned i n v)
+  aligned_fine : (n v : ℕ) → (Small i → v < 2 ^ 64) → FineValue i (aligned i n v)
   unfolding aligned refusal_number
   aligned_fine n v p = go (not (eqb i.rules 0) && not (eqb (address_of i.word i.rs % n) 0))
     where
-      go : (b : Bool) → FineOutcome i (cond b (Trapped AddressError) (Value v))
-      go true = fine_outcome (lit≤ tt, lit≤ tt)
+      go : (b : Bool) → FineValue i (cond b (Err AddressError) (Ok v))
+      go true = fine_value (lit≤ tt, lit≤ tt)
       go false = value_fine v p
 
-  loaded_fine : (l : Load) → FineOutcome i (loaded l i)
+  loaded_fine : (l : Load) → FineValue i (loaded l i)
   unfolding loaded byte_at half_at word_at lwl lwr
   loaded_fine LB = value_fine _ (λ s. sext_lt 8 _ (lit≤ tt))
   loaded_fine LBU = value_fine _ (λ s. few_lt 1 i.mem _ (lit≤ tt))
@@ -373,7 +374,7 @@ module _ (i : Ins) where
   loaded_fine LDL = value_fine _ (λ s. ldl_lt i.mem (offset_of i) i.rt (offset_lt _))
   loaded_fine LDR = value_fine _ (λ s. ldr_lt i.rules i.mem (offset_of i) i.rt (offset_lt _) s.rt)
 
-  stored_fine : (x : Store) → FineOutcome i (stored x i)
+  stored_fine : (x : Store) → FineValue i (stored x i)
   unfolding stored sb sh sw swl sdl sdr
   stored_fine SB = value_fine _ (λ s. put_lt i.mem _ 1 _)
   stored_fine SH = aligned_fine 2 _ (λ s. put_lt i.mem _ 2 _)
@@ -384,15 +385,13 @@ module _ (i : Ins) where
   stored_fine SDL = value_fine _ (λ s. put_lt i.mem _ _ _)
   stored_fine SDR = value_fine _ (λ s. put_lt i.mem 0 _ _)
 
-  after_fine : (f : ℕ → Effect) → ((v : ℕ) → (Small i → v < 2 ^ 64) → Fine i (f v)) → (o : Outcome) → FineOutcome i o → Fine i (after f o)
-  after_fine f p (Value v) (fine_outcome q) = p v q
-  after_fine f p (Trapped n) (fine_outcome q) = fine q
-  after_fine f p Unknown q = reserved_fine
+  after_fine : (f : ℕ → Change) → ((v : ℕ) → (Small i → v < 2 ^ 64) → Fine i (Ok (f v))) → (o : Result ℕ Refusal) → FineValue i o → Fine i (after f o)
+  after_fine f p (Ok v) (fine_value q) = p v q
+  after_fine f p (Err n) (fine_value q) = fine q
 
-  answering_fine : (o : Outcome) → FineOutcome i o → Fine i (answering i o)
-  answering_fine (Value m) (fine_outcome q) = cond_fine (eqb i.rules 0 && eqb (rt_of i.word) 0) none_fine (storing_fine (rt_of i.word) 1 m (lit< tt) q)
-  answering_fine (Trapped n) (fine_outcome q) = fine q
-  answering_fine Unknown q = reserved_fine
+  answering_fine : (o : Result ℕ Refusal) → FineValue i o → Fine i (answering i o)
+  answering_fine (Ok m) (fine_value q) = pick_fine (eqb i.rules 0 && eqb (rt_of i.word) 0) none_fine (storing_fine (rt_of i.word) 1 m (lit< tt) q)
+  answering_fine (Err n) (fine_value q) = fine q
 
   conditional_fine : (c : Conditional) → Fine i (conditionally c i)
   unfolding conditionally
@@ -429,8 +428,8 @@ module _ (i : Ins) where
 
   -- ---- all of them
 
-  move_fine : (t : Bool) → Fine i (cond t (to_register i (rd_of i.word) i.rs) (to_register i 0 0))
-  move_fine t = cond_fine t (register_fine _ _ (λ s. s.rs)) none_fine
+  move_fine : (t : Bool) → Fine i (Ok (cond t (to_register i (rd_of i.word) i.rs) (to_register i 0 0)))
+  move_fine t = pick_fine t (register_fine _ _ (λ s. s.rs)) none_fine
 
   other_fine : (o : Other) → Fine i (does_other o i)
   unfolding does_other
@@ -457,16 +456,16 @@ module _ (i : Ins) where
   unfolding kernel_def refusal_number
   kernel_fine = cond_fine (eqb (i.pc % 4) 0) (does_fine (decode i.word)) (fine (lit≤ tt, lit≤ tt))
 
-done_bounded : {i : Ins} {e : Change} → Fine i (Done e) → Small i → Bounded e
+done_bounded : {i : Ins} {e : Change} → Fine i (Ok e) → Small i → Bounded e
 done_bounded (fine p) = p
 
-refused_own : {i : Ins} {n : Refusal} → Fine i (Refused n) → Own n
+refused_own : {i : Ins} {n : Refusal} → Fine i (Err (Refused n)) → Own n
 refused_own (fine p) = p
 
 -- an instruction that reads numbers of 64 bits makes numbers of 64 bits
-pub kernel_bounded : (i : Ins) → Small i → (e : Change) → kernel_def i ≡ Done e → Bounded e
+pub kernel_bounded : (i : Ins) → Small i → (e : Change) → kernel_def i ≡ Ok e → Bounded e
 kernel_bounded i s e h = done_bounded (rw h at (kernel_fine i)) s
 
 -- an instruction by itself is refused only with 2 to 7
-pub kernel_refuses : (i : Ins) (n : Refusal) → kernel_def i ≡ Refused n → (2 ≤ refusal_number n) × (refusal_number n ≤ 7)
+pub kernel_refuses : (i : Ins) (n : Refusal) → kernel_def i ≡ Err (Refused n) → (2 ≤ refusal_number n) × (refusal_number n ≤ 7)
 kernel_refuses i n h = refused_own (rw h at (kernel_fine i))

@@ -1,8 +1,9 @@
 -- What the step needs to know of the kernel: the register that it writes is one, when it calls, and that the touched address is a doubleword's.
+use Rattle.std.specs.Prelude.{Result, Ok, Err}
 use Rattle.std.proofs.Common.{◌≡◌, ℕ, ◌*◌, ◌/◌, ◌%◌, ◌<◌, Bool, true, false, cond, not, ◌&&◌, eqb, sym, refl, ap, ◌∙◌, mod-lt, arith, lit<, eq-eqb}
 use Rattle.interpreter.specs.Isa.{rt_of, rd_of, HiLo, MTHI, MTLO, MULT, MULTU, DMULT, DMULTU, DIV, DIVU, DDIV, DDIVU, Conditional, SC, SCD, Branch, BEQ, BNE, BLEZ, BGTZ, BLTZ, BGEZ, BGEZAL, Jump, J, JAL, JR, JALR, Other, MOVZ, MOVN, SYNC, SYSCALL, Instruction, alu, imm, hilo, load, store, conditional, branch, jump, other, reserved, reserved_branch}
 use Rattle.interpreter.specs.OpcodeMap.{decode}
-use Rattle.interpreter.specs.Effects.{changes, storing, going, to_register}
+use Rattle.interpreter.specs.Effects.{changes, storing, going, to_register, Effect}
 use Rattle.interpreter.specs.HiLo.{hi_lo, overflows, to_hi_lo, dividing, pair, mult, multu, dmult, dmultu, div, divu, ddiv, ddivu}
 use Rattle.interpreter.specs.declared.hi_lo.Pair.{Pair}
 use Rattle.interpreter.specs.Loads.{loaded, address_of}
@@ -12,28 +13,24 @@ use Rattle.interpreter.specs.Words.{plus, word, by_rules}
 use Rattle.interpreter.specs.Isa.{SW, SD}
 use Rattle.interpreter.specs.declared.effect.Ins.{Ins}
 use Rattle.interpreter.specs.declared.effect.Change.{Change}
-use Rattle.interpreter.specs.declared.effect.Effect.{Effect}
-use Rattle.interpreter.specs.declared.effect.Effect.TheVariants.{Refused, Call, Done}
+use Rattle.interpreter.specs.declared.effect.Stop.TheVariants.{Refused, Call}
 use Rattle.interpreter.specs.declared.effect.Refusal.{Refusal}
 use Rattle.interpreter.specs.declared.effect.Refusal.TheVariants.{PcMisaligned}
 use Rattle.interpreter.specs.Recording.{other_calls, calls}
-use Rattle.interpreter.specs.declared.effect.Outcome.{Outcome}
-use Rattle.interpreter.specs.declared.effect.Outcome.TheVariants.{Value, Trapped, Unknown}
 use Rattle.interpreter.specs.declared.effect.Touch.{Touch}
 use Rattle.interpreter.specs.declared.effect.Touch.TheVariants.{Nothing, Eight}
 
 -- ---- the register
 
 abbrev dest_of : Effect → ℕ
-dest_of (Refused n) = 0
-dest_of Call = 0
-dest_of (Done e) = e.dest
+dest_of (Err n) = 0
+dest_of (Ok e) = e.dest
 
 -- a register, or none
 abbrev is_call : Effect → Bool
-is_call (Refused n) = false
-is_call Call = true
-is_call (Done e) = false
+is_call (Err (Refused n)) = false
+is_call (Err Call) = true
+is_call (Ok e) = false
 
 -- and whether it is a system call
 data Fine (b : Bool) (e : Effect) : Type 0 where
@@ -45,18 +42,22 @@ below b e (fine p q) = p
 called : (b : Bool) (e : Effect) → Fine b e → is_call e ≡ b
 called b e (fine p q) = q
 
-fine_refused : (n : Refusal) → Fine false (Refused n)
+fine_refused : (n : Refusal) → Fine false (Err (Refused n))
 fine_refused n = fine (lit< tt) refl
 
-fine_call : Fine true Call
+fine_call : Fine true (Err Call)
 fine_call = fine (lit< tt) refl
 
-fine_done : (e : Change) → e.dest < 32 → Fine false (Done e)
+fine_done : (e : Change) → e.dest < 32 → Fine false (Ok e)
 fine_done e p = fine p refl
 
 fine_cond : (t : Bool) {z : Bool} {a b : Effect} → Fine z a → Fine z b → Fine z (cond t a b)
 fine_cond true p q = p
 fine_cond false p q = q
+
+fine_pick : (t : Bool) {z : Bool} {a b : Change} → Fine z (Ok a) → Fine z (Ok b) → Fine z (Ok (cond t a b))
+fine_pick true p q = p
+fine_pick false p q = q
 
 small_cond : (t : Bool) {a b : ℕ} → a < 32 → b < 32 → cond t a b < 32
 small_cond true p q = p
@@ -71,11 +72,11 @@ last = lit< tt
 pub field : (n : ℕ) → n % 32 < 32
 field n = mod-lt n (lit< tt)
 
-fine_changes : (i : Ins) (d v h l : ℕ) → d < 32 → Fine false (changes i d v h l)
+fine_changes : (i : Ins) (d v h l : ℕ) → d < 32 → Fine false (Ok (changes i d v h l))
 unfolding changes
 fine_changes i d v h l p = fine p refl
 
-fine_storing : (i : Ins) (d v m : ℕ) → d < 32 → Fine false (storing i d v m)
+fine_storing : (i : Ins) (d v m : ℕ) → d < 32 → Fine false (Ok (storing i d v m))
 unfolding storing
 fine_storing i d v m p = fine p refl
 
@@ -83,17 +84,15 @@ fine_going : (i : Ins) (d v t : ℕ) → d < 32 → Fine false (going i d v t)
 unfolding going
 fine_going i d v t p = fine_cond (eqb i.next (plus i.pc 4)) (fine_done _ p) (fine_refused _)
 
-fine_after : (f : ℕ → Effect) (o : Outcome) → ((v : ℕ) → Fine false (f v)) → Fine false (after f o)
-fine_after f (Value v) p = p v
-fine_after f (Trapped t) p = fine_refused _
-fine_after f Unknown p = fine_refused _
+fine_after : (f : ℕ → Change) (o : Result ℕ Refusal) → ((v : ℕ) → Fine false (Ok (f v))) → Fine false (after f o)
+fine_after f (Ok v) p = p v
+fine_after f (Err n) p = fine_refused _
 
-fine_answering : (i : Ins) (o : Outcome) → Fine false (answering i o)
-fine_answering i (Value m) = fine_cond (eqb i.rules 0 && eqb (rt_of i.word) 0) (fine_changes i 0 0 i.hi i.lo none) (fine_storing i (rt_of i.word) 1 m (field _))
-fine_answering i (Trapped t) = fine_refused _
-fine_answering i Unknown = fine_refused _
+fine_answering : (i : Ins) (o : Result ℕ Refusal) → Fine false (answering i o)
+fine_answering i (Ok m) = fine_pick (eqb i.rules 0 && eqb (rt_of i.word) 0) (fine_changes i 0 0 i.hi i.lo none) (fine_storing i (rt_of i.word) 1 m (field _))
+fine_answering i (Err n) = fine_refused _
 
-fine_hilo : (i : Ins) (p : Pair) → Fine false (to_hi_lo i p)
+fine_hilo : (i : Ins) (p : Pair) → Fine false (Ok (to_hi_lo i p))
 fine_hilo i p = fine_changes i (by_rules i.rules (rd_of i.word) 0) 0 p.hi p.lo (small_cond (eqb i.rules 0) (field _) none)
 
 fine_divides : (n : ℕ) (i : Ins) (x y : ℕ) (p : Pair) → Fine false (dividing n i x y p)
@@ -134,8 +133,8 @@ jump_fine JAL i = fine_going i 31 _ _ last
 jump_fine JR i = fine_going i 0 0 _ none
 jump_fine JALR i = fine_going i _ _ _ (field _)
 
-move_fine : (t : Bool) (i : Ins) → Fine false (cond t (to_register i (rd_of i.word) i.rs) (to_register i 0 0))
-move_fine t i = fine_cond t (fine_changes i _ _ _ _ (field _)) (fine_changes i 0 0 _ _ none)
+move_fine : (t : Bool) (i : Ins) → Fine false (Ok (cond t (to_register i (rd_of i.word) i.rs) (to_register i 0 0)))
+move_fine t i = fine_pick t (fine_changes i _ _ _ _ (field _)) (fine_changes i 0 0 _ _ none)
 
 other_fine : (o : Other) (i : Ins) → Fine (other_calls o) (does_other o i)
 unfolding does_other
@@ -158,12 +157,12 @@ does_fine (other o) i = other_fine o i
 does_fine reserved i = fine_refused _
 does_fine reserved_branch i = fine_cond (eqb i.next (plus i.pc 4)) (fine_refused _) (fine_refused _)
 
-kernel_small : (t : Bool) (i : Ins) → dest_of (cond t (does (decode i.word) i) (Refused PcMisaligned)) < 32
+kernel_small : (t : Bool) (i : Ins) → dest_of (cond t (does (decode i.word) i) (Err (Refused PcMisaligned))) < 32
 kernel_small true i = below _ (does (decode i.word) i) (does_fine (decode i.word) i)
 kernel_small false i = none
 
 -- the register that an instruction writes
-pub kernel_dest : (i : Ins) (e : Change) {f : Effect} → f ≡ kernel_def i → f ≡ Done e → e.dest < 32
+pub kernel_dest : (i : Ins) (e : Change) {f : Effect} → f ≡ kernel_def i → f ≡ Ok e → e.dest < 32
 unfolding kernel_def
 kernel_dest i e g h = let q : e.dest ≡ dest_of (kernel_def i) = ap dest_of (sym h ∙ g) in rw q (kernel_small (eqb (i.pc % 4) 0) i)
 
@@ -172,13 +171,13 @@ kernel_calls : (i : Ins) {e : Effect} → i.pc % 4 ≡ 0 → e ≡ kernel_def i 
 unfolding kernel_def
 kernel_calls i {e} h g = let q : e ≡ does (decode i.word) i = g ∙ rw (eq-eqb _ _ h) in ap is_call q ∙ called _ (does (decode i.word) i) (does_fine (decode i.word) i)
 
-pub calls_call : (i : Ins) {e : Effect} → i.pc % 4 ≡ 0 → e ≡ kernel_def i → e ≡ Call → calls (decode i.word) ≡ true
+pub calls_call : (i : Ins) {e : Effect} → i.pc % 4 ≡ 0 → e ≡ kernel_def i → e ≡ Err Call → calls (decode i.word) ≡ true
 calls_call i h g z = sym (kernel_calls i h g) ∙ ap is_call z
 
-pub calls_done : (i : Ins) {e : Effect} {a : Change} → i.pc % 4 ≡ 0 → e ≡ kernel_def i → e ≡ Done a → calls (decode i.word) ≡ false
+pub calls_done : (i : Ins) {e : Effect} {a : Change} → i.pc % 4 ≡ 0 → e ≡ kernel_def i → e ≡ Ok a → calls (decode i.word) ≡ false
 calls_done i h g z = sym (kernel_calls i h g) ∙ ap is_call z
 
-pub calls_refused : (i : Ins) {e : Effect} {n : Refusal} → i.pc % 4 ≡ 0 → e ≡ kernel_def i → e ≡ Refused n → calls (decode i.word) ≡ false
+pub calls_refused : (i : Ins) {e : Effect} {n : Refusal} → i.pc % 4 ≡ 0 → e ≡ kernel_def i → e ≡ Err (Refused n) → calls (decode i.word) ≡ false
 calls_refused i h g z = sym (kernel_calls i h g) ∙ ap is_call z
 
 -- ---- the touched address

@@ -1,43 +1,49 @@
 -- A quick answer that agrees with the definition.
-use Rattle.std.proofs.Common.{◌≡◌, ℕ, ◌+◌, ◌*◌, ◌/◌, ◌<◌, Bool, true, false, cond, eqb, List, sym, refl, ap, ◌∙◌, subst, arith}
+use Rattle.std.proofs.Common.{◌≡◌, ℕ, ◌+◌, ◌*◌, ◌/◌, ◌<◌, Bool, true, false, cond, eqb, List, sym, ap, ◌∙◌, subst, arith}
+use Rattle.std.specs.Prelude.{Option, Some, None, Ok, Err}
+use Rattle.std.specs.Result.{result_ok}
 use Rattle.pages.specs.Bytes.{big}
 use Rattle.pages.specs.Pages.{byte_at}
 use Rattle.interpreter.specs.Isa.{opcode_of, funct_of, Instruction}
 use Rattle.interpreter.specs.OpcodeMap.{special, decode_by, decode, accesses}
-use Rattle.interpreter.specs.Effects.{seeing}
+use Rattle.interpreter.specs.Effects.{seeing, Effect}
 use Rattle.interpreter.specs.Loads.{address_of}
 use Rattle.interpreter.specs.Kernel.{does}
-use Rattle.interpreter.specs.Parts.{Agrees, key_of, Quiet, Sees, on_near, Reaches}
+use Rattle.interpreter.specs.Parts.{Agrees, key_of, Quiet, Sees, Reaches}
 use Rattle.interpreter.specs.declared.effect.Ins.{Ins}
 use Rattle.interpreter.specs.declared.effect.Change.{Change}
-use Rattle.interpreter.specs.declared.effect.Effect.{Effect}
-use Rattle.interpreter.specs.declared.effect.Effect.TheVariants.{Refused, Done, Call}
-use Rattle.interpreter.specs.declared.access.Near.{Near}
-use Rattle.interpreter.specs.declared.access.Near.TheVariants.{Here, Away}
 use Rattle.interpreter.specs.declared.window.Window.{Window}
 use Rattle.interpreter.proofs.Laws.Touches.{special_nothing, touches_by}
 
-pub agrees_same : {r s : Effect} → r ≡ s → Agrees r s
+abbrev change_or : Option Change → Change → Change
+change_or (Some e) d = e
+change_or None d = d
+
+abbrev IsNone : Option Change → Type 0
+IsNone None = Unit {0}
+IsNone (Some e) = ⊥
+
+no_change : {A : Type 0} {e : Change} → None ≡ Some e → A
+no_change h = absurd (subst IsNone h tt)
+
+-- a change that an effect is
+ok_change : (s : Effect) {e : Change} → result_ok s ≡ Some e → s ≡ Ok e
+ok_change (Ok a) h = ap (λ k. Ok (change_or k a)) h
+ok_change (Err n) h = no_change h
+
+pub agrees_same : {r : Option Change} (s : Effect) → r ≡ result_ok s → Agrees r s
 unfolding Agrees
-agrees_same p e h = sym p ∙ h
+agrees_same s p e h = ok_change s (sym p ∙ h)
 
 -- the definition, said otherwise
-pub agrees_as : (r : Effect) {s t : Effect} → Agrees r s → s ≡ t → Agrees r t
+pub agrees_as : (r : Option Change) {s t : Effect} → Agrees r s → s ≡ t → Agrees r t
 unfolding Agrees
 agrees_as r a p e h = sym p ∙ a e h
 
-abbrev IsCall : Effect → Type 0
-IsCall Call = Unit {0}
-IsCall (Refused n) = ⊥
-IsCall (Done e) = ⊥
-
-no_change : {A : Type 0} {e : Change} → Call ≡ Done e → A
-no_change h = absurd (subst IsCall h tt)
-
 -- what is no change agrees with anything
-pub agrees_call : (s : Effect) → Agrees Call s
+pub agrees_none : (s : Effect) → Agrees None s
 unfolding Agrees
-agrees_call s e h = no_change h
+agrees_none s e h = no_change h
 
 -- ---- keys
 
@@ -61,47 +67,39 @@ module _ (w : ℕ) {k : ℕ} (e : k ≡ key_of w) where
 -- ---- instructions that touch no memory
 
 module _ (i : Ins) {k : ℕ} (e : k ≡ key_of i.word) where
-  pub quiet_special : (f : ℕ) → k ≡ 0x40 + f → {r : Effect} → r ≡ does (special f) i → Quiet r i
+  pub quiet_special : (f : ℕ) → k ≡ 0x40 + f → {r : Option Change} → r ≡ result_ok (does (special f) i) → Quiet r i
   unfolding Quiet
-  quiet_special f h q c g = let d = key_special i.word e f h in (rw d (sym q ∙ g), λ a. rw d (special_nothing a f))
+  quiet_special f h q c g = let d = key_special i.word e f h in (rw d (ok_change (does (special f) i) (sym q ∙ g)), λ a. rw d (special_nothing a f))
 
-  pub quiet_op : (n : ℕ) → k ≡ n → n < 64 → accesses n ≡ false → (r : Effect) → Agrees r (does (decode_by n i.word) i) → Quiet r i
+  pub quiet_op : (n : ℕ) → k ≡ n → n < 64 → accesses n ≡ false → (r : Option Change) → Agrees r (does (decode_by n i.word) i) → Quiet r i
   unfolding Quiet Agrees
   quiet_op n h l s r a c g = let d = key_op i.word e n h l in (rw d (a c g), λ x. rw d (touches_by n i.word x l false (sym s)))
 
-pub quiet_call : (i : Ins) → Quiet Call i
+pub quiet_none : (i : Ins) → Quiet None i
 unfolding Quiet
-quiet_call i e h = no_change h
+quiet_none i e h = no_change h
 
 -- ---- loads and stores in the page
 
-abbrev IsAway : Near → Type 0
-IsAway Away = Unit {0}
-IsAway (Here j) = ⊥
-
-pub not_away : {A : Type 0} {j : Ins} → Away ≡ Here j → A
-not_away h = absurd (subst IsAway h tt)
-
-abbrev inside : Near → Ins → Ins
-inside (Here j) i = j
-inside Away i = i
+abbrev inside : Option Ins → Ins → Ins
+inside (Some j) i = j
+inside None i = i
 
 -- the instruction that was given its eight bytes
 pub sees : (p : List ℕ) (u : ℕ) (w : Window) (i : Ins) {a m : ℕ} {n j : Ins} → a ≡ address_of i.word i.rs → n ≡ seeing i m → m ≡ big 8 (byte_at p u) (a / 8 * 8) → a / 8 * 8 / 4096 ≡ w.number
-    → Here n ≡ Here j → Sees p u w i j
+    → Some n ≡ Some j → Sees p u w i j
 sees p u w i q1 q2 q3 q4 e =
     record { here = sym (ap (λ (x : ℕ). x / 8 * 8 / 4096) q1) ∙ q4; eight = sym (ap (λ k. inside k i) e) ∙ q2 ∙ ap (seeing i) (q3 ∙ ap (λ (x : ℕ). big 8 (byte_at p u) (x / 8 * 8)) q1) }
 
 module _ (p : List ℕ) (u : ℕ) (w : Window) (i : Ins) {k : ℕ} (e : k ≡ key_of i.word) where
-  pub reaches : (n : ℕ) → k ≡ n → n < 64 → accesses n ≡ true → (m : Near) → ((j : Ins) → m ≡ Here j → Sees p u w i j)
-      → (r : Effect) → r ≡ on_near m (does (decode_by n i.word)) → Reaches p u w i r
+  pub reaches : (n : ℕ) → k ≡ n → n < 64 → accesses n ≡ true → {m : Option Ins} {j : Ins} → ((j : Ins) → m ≡ Some j → Sees p u w i j) → m ≡ Some j
+      → {r : Option Change} → r ≡ result_ok (does (decode_by n i.word) j) → Reaches p u w i r
   unfolding Reaches
-  reaches n h l s (Here j) z r q c g =
+  reaches n h l s {j = j} z y q c g =
       let d = key_op i.word e n h l in
-      let b = z j refl in
-      (rw (d, ← b.eight) (sym q ∙ g), λ a. rw d (touches_by n i.word a l true (sym s)), b.here)
-  reaches n h l s Away z r q c g = no_change (sym q ∙ g)
+      let b = z j y in
+      (rw (d, ← b.eight) (ok_change (does (decode_by n i.word) j) (sym q ∙ g)), λ a. rw d (touches_by n i.word a l true (sym s)), b.here)
 
-pub reaches_call : (p : List ℕ) (u : ℕ) (w : Window) (i : Ins) → Reaches p u w i Call
+pub reaches_none : (p : List ℕ) (u : ℕ) (w : Window) (i : Ins) → Reaches p u w i None
 unfolding Reaches
-reaches_call p u w i e h = no_change h
+reaches_none p u w i e h = no_change h

@@ -1,5 +1,6 @@
 -- What every step keeps: the form of its state, and that a store goes to a doubleword.
 use Rattle.std.proofs.Common.{◌≡◌, ℕ, ◌+◌, ◌*◌, ◌/◌, ◌%◌, ◌^◌, ◌<◌, ◌≤◌, Bool, true, false, cond, ltb, List, [], length, sym, refl, ap, ◌∙◌, arith, length-append, length-drop, ltb-false, le-ltb, Result, Ok, Err}
+use Rattle.std.specs.Prelude.{Option, Some, None, Ok, Err}
 use lib.Seq.{length-sets}
 use Rattle.pages.specs.Bytes.{cell, big, bytes_of}
 use Rattle.pages.specs.Memory.{span}
@@ -16,8 +17,8 @@ use Rattle.interpreter.specs.OpcodeMap.{decode}
 use Rattle.interpreter.specs.Loads.{address_of}
 use Rattle.interpreter.specs.Kernel.{touch_def}
 use Rattle.interpreter.specs.declared.effect.Change.{Change}
-use Rattle.interpreter.specs.declared.effect.Effect.{Effect}
-use Rattle.interpreter.specs.declared.effect.Effect.TheVariants.{Refused as RefusedBy, Call as CallBy, Done}
+use Rattle.interpreter.specs.Effects.{Effect}
+use Rattle.interpreter.specs.declared.effect.Stop.TheVariants.{Refused as RefusedBy, Call as CallBy}
 use Rattle.interpreter.specs.declared.effect.Touch.{Touch}
 use Rattle.interpreter.specs.declared.effect.Touch.TheVariants.{Nothing, Eight}
 use Rattle.interpreter.specs.declared.effect.Refusal.{Refusal}
@@ -34,7 +35,7 @@ use Rattle.interpreter.specs.declared.input.Entry.TheVariants.{At, Absent}
 use Rattle.interpreter.specs.Machine.{Machine, reg, counted, changed, onward, leaving, formless, room_of, bad}
 use Rattle.interpreter.specs.Inputs.{entry_of, inside, part_of}
 use Rattle.interpreter.specs.Hints.{text_of, heard}
-use Rattle.interpreter.specs.Plan.{View, Store, keeps, stores, Deed, Plan, refuse, does, storing, changing, a1, a2, place, call_in, replying, staying, exiting, keying, wrote, writing, hinted, hearing, together, hinting, read, reading_in, reading_at, reading, calling, touch_of, planned, executing, word_of, plan}
+use Rattle.interpreter.specs.Plan.{View, Store, keeps, stores, Deed, Plan, refuse, does, store_of, storing, changing, a1, a2, place, call_in, replying, staying, exiting, keying, wrote, writing, hinted, hearing, together, hinting, read, reading_in, reading_at, reading, calling, touch_of, planned, executing, word_of, plan}
 use Rattle.interpreter.specs.Step.{left, refused, landed, putting, lay, settled, view_of, with_cpu, working, advance, step_def}
 use Rattle.interpreter.proofs.Laws.Tests.{no_true, neither}
 use Rattle.interpreter.proofs.Laws.Paging.{is_used}
@@ -66,9 +67,9 @@ storing_aligned : (t : Touch) (e : Change) → Aligned (touched_at t) → Aligne
 storing_aligned Nothing e h = zero_aligned
 storing_aligned (Eight a) e h = go e.store
   where
-    go : (b : Bool) → Aligned (address_in (cond b (stores a e.mem) keeps))
-    go true = h
-    go false = zero_aligned
+    go : (m : Option ℕ) → Aligned (address_in (store_of (Eight a) m))
+    go (Some m) = h
+    go None = zero_aligned
 
 -- ---- what a deed keeps
 
@@ -192,9 +193,9 @@ module _ (v : View) (counts : length v.held ≡ v.cpu.hint) (within : length v.h
 
   planned_sound : (t : Touch) (e : Effect) → Aligned (touched_at t) → Sound v (planned v t e)
   unfolding planned
-  planned_sound t (RefusedBy n) h = refuse_sound n
-  planned_sound t CallBy h = calling_sound (call_in v.cpu v.regs)
-  planned_sound t (Done e) h = change_sound t e h
+  planned_sound t (Err (RefusedBy n)) h = refuse_sound n
+  planned_sound t (Err CallBy) h = calling_sound (call_in v.cpu v.regs)
+  planned_sound t (Ok e) h = change_sound t e h
 
   pub plan_sound : Sound v (plan v)
   unfolding plan executing

@@ -1,4 +1,5 @@
 -- Steps that are not wide: every memory that shows the touched eight bytes has the same step, and no other byte of it changes.
+use Rattle.std.specs.Prelude.{Option, Some, None, Ok, Err}
 use Rattle.std.proofs.Common.{◌≡◌, ℕ, ◌^◌, ◌<◌, Bool, true, false, cond, eqb, List, [], length, set, sym, refl, ap, ◌∙◌, subst, length-set}
 use Rattle.pages.specs.Bytes.{big, bytes_of}
 use Rattle.pages.specs.Memory.{Memory, write}
@@ -9,8 +10,8 @@ use Rattle.interpreter.specs.OpcodeMap.{decode}
 use Rattle.interpreter.specs.Kernel.{kernel_def}
 use Rattle.interpreter.specs.declared.effect.Ins.{Ins}
 use Rattle.interpreter.specs.declared.effect.Change.{Change}
-use Rattle.interpreter.specs.declared.effect.Effect.{Effect}
-use Rattle.interpreter.specs.declared.effect.Effect.TheVariants.{Refused as RefusedBy, Call as CallBy, Done}
+use Rattle.interpreter.specs.Effects.{Effect}
+use Rattle.interpreter.specs.declared.effect.Stop.TheVariants.{Refused as RefusedBy, Call as CallBy}
 use Rattle.interpreter.specs.declared.effect.Refusal.{Refusal}
 use Rattle.interpreter.specs.declared.effect.Touch.{Touch}
 use Rattle.interpreter.specs.declared.effect.Touch.TheVariants.{Nothing, Eight}
@@ -19,7 +20,7 @@ use Rattle.interpreter.specs.declared.linux.Call.{Call}
 use Rattle.interpreter.specs.declared.linux.Call.TheVariants.{Answer as Reply, Heap, Exit, Key, Input, Write, Hint as HintWrite}
 use Rattle.interpreter.specs.Machine.{reg, set_reg, answering, counted}
 use Rattle.interpreter.specs.Inputs.{shifted}
-use Rattle.interpreter.specs.Plan.{View, Store, keeps, stores, Deed, Plan, refuse, does, storing, changing, eight_at, keying, replying, exiting, call_in, calling, ins_of, touch_of, planned, executing, plan}
+use Rattle.interpreter.specs.Plan.{View, Store, keeps, stores, Deed, Plan, refuse, does, store_of, storing, changing, eight_at, keying, replying, exiting, call_in, calling, ins_of, touch_of, planned, executing, plan}
 use Rattle.interpreter.specs.Recording.{calls, call_wide, call_touch, wide, touched}
 use Rattle.interpreter.specs.Ideal.{ideal, ideal_view, counting, follow, remember, ideal_step}
 use Rattle.interpreter.specs.Runs.{is_refused}
@@ -61,9 +62,9 @@ storing_goes : (t : Touch) (e : Change) → Goes t (storing t e)
 storing_goes Nothing e = tt
 storing_goes (Eight a) e = go e.store
   where
-    go : (b : Bool) → Goes (Eight a) (cond b (stores a e.mem) keeps)
-    go true = refl
-    go false = tt
+    go : (m : Option ℕ) → Goes (Eight a) (store_of (Eight a) m)
+    go (Some m) = refl
+    go None = tt
 
 module _ (v : View) where
   change_narrow : (t : Touch) (e : Change) → Narrow v.regs v.key t (changing v t e)
@@ -107,25 +108,25 @@ module _ (c : Cpu) (r : List ℕ) (w : ℕ) (narrow : wide c r w ≡ false) wher
     unfolding ins_of
     word_is = rw yi
 
-    is_call : (e : Effect) → e ≡ kernel_def i → e ≡ CallBy → calls (decode w) ≡ true
+    is_call : (e : Effect) → e ≡ kernel_def i → e ≡ Err CallBy → calls (decode w) ≡ true
     is_call e y z = sym (ap (λ v. calls (decode v)) word_is) ∙ calls_call i (pc_aligned i y (ap unrefused z)) y z
 
-    is_done : (e : Effect) {f : Change} → e ≡ kernel_def i → e ≡ Done f → calls (decode w) ≡ false
+    is_done : (e : Effect) {f : Change} → e ≡ kernel_def i → e ≡ Ok f → calls (decode w) ≡ false
     is_done e y z = sym (ap (λ v. calls (decode v)) word_is) ∙ calls_done i (pc_aligned i y (ap unrefused z)) y z
 
   -- a step that is not refused has such a deed
   plan_found : (k : List ℕ) (m : Memory) (e : Effect) → e ≡ effect_shown c r w m → unrefused e ≡ true
       → Found (Narrow r k (touched c r w)) (planned (sees [] [] k m []) (touch_of r w) e)
   unfolding planned effect_shown ideal_view call_in counted
-  plan_found k m (RefusedBy n) y h = no_true (sym h)
-  plan_found k m CallBy y h = call_narrow (sees [] [] k m []) (touched c r w) (call_in c r) (not_wide (is_call m refl CallBy y refl))
-  plan_found k m (Done f) y h = rw (touched_other c r w (is_done m refl (Done f) y refl)) (found _ refl (change_narrow (sees [] [] k m []) (touch_of r w) f))
+  plan_found k m (Err (RefusedBy n)) y h = no_true (sym h)
+  plan_found k m (Err CallBy) y h = call_narrow (sees [] [] k m []) (touched c r w) (call_in c r) (not_wide (is_call m refl (Err CallBy) y refl))
+  plan_found k m (Ok f) y h = rw (touched_other c r w (is_done m refl (Ok f) y refl)) (found _ refl (change_narrow (sees [] [] k m []) (touch_of r w) f))
 
   pub shown_found : (k : List ℕ) (m : Memory) → unrefused (effect_shown c r w m) ≡ true → Found (Narrow r k (touched c r w)) (plan_shown c r k w m)
   unfolding plan_shown executing effect_shown ideal_view
   shown_found k m h = plan_found k m (effect_shown c r w m) refl h
 
-  pub shown_stops : (k : List ℕ) (m : Memory) {n : Refusal} → effect_shown c r w m ≡ RefusedBy n → plan_shown c r k w m ≡ refuse n
+  pub shown_stops : (k : List ℕ) (m : Memory) {n : Refusal} → effect_shown c r w m ≡ Err (RefusedBy n) → plan_shown c r k w m ≡ refuse n
   unfolding plan_shown executing effect_shown ideal_view planned
   shown_stops k m e = rw e
 
@@ -144,11 +145,11 @@ module _ (c : Cpu) (r : List ℕ) (w : ℕ) (narrow : wide c r w ≡ false) wher
   planned_same : (x d k h : List ℕ) (m n : Memory) (e : Effect) → e ≡ effect_shown c r w m → eight_at m (touched c r w) ≡ eight_at n (touched c r w)
       → planned (sees x d k m h) (touch_of r w) e ≡ planned (sees [] [] k n []) (touch_of r w) e
   unfolding planned effect_shown changing ideal_view call_in counted
-  planned_same x d k h m n (RefusedBy f) y s = refl
-  planned_same x d k h m n CallBy y s =
-      let g : calls (decode w) ≡ true = is_call m refl CallBy y refl in
+  planned_same x d k h m n (Err (RefusedBy f)) y s = refl
+  planned_same x d k h m n (Err CallBy) y s =
+      let g : calls (decode w) ≡ true = is_call m refl (Err CallBy) y refl in
       call_same x d k h m n (call_in c r) (not_wide g) (rw (touched_call c r w g) at s)
-  planned_same x d k h m n (Done f) y s = refl
+  planned_same x d k h m n (Ok f) y s = refl
 
   pub shown_same : (x d k h : List ℕ) (m n : Memory) → eight_at m (touched c r w) ≡ eight_at n (touched c r w)
       → executing (sees x d k m h) w (touch_of r w) ≡ plan_shown c r k w n

@@ -1,5 +1,6 @@
 -- How the parts of a step meet its definition.
 use Rattle.std.proofs.Common.{◌≡◌, ℕ, ◌+◌, ◌-◌, ◌*◌, ◌/◌, ◌%◌, ◌<◌, ◌≤◌, Bool, true, false, cond, ltb, leb, List, length, sym, refl, ap, ◌∙◌, arith, ltb-false, le-ltb, lt-ltb, ne_eqb, le-leb, Result, Ok, Err}
+use Rattle.std.specs.Prelude.{Ok, Err}
 use lib.Seq.{sets}
 use borrow.Author.Tests.{lt-leb}
 use Rattle.pages.specs.Bytes.{big, row, cell, bytes_of}
@@ -16,8 +17,8 @@ use Rattle.interpreter.specs.declared.effect.Touch.{Touch}
 use Rattle.interpreter.specs.declared.effect.Refusal.{Refusal}
 use Rattle.interpreter.specs.declared.effect.Refusal.TheVariants.{PcMisaligned, MemoryFull, NoRoom, NoInput, InputOffset}
 use Rattle.interpreter.specs.declared.effect.Ins.{Ins}
-use Rattle.interpreter.specs.declared.effect.Effect.{Effect}
-use Rattle.interpreter.specs.declared.effect.Effect.TheVariants.{Refused as RefusedBy, Call as CallBy, Done}
+use Rattle.interpreter.specs.Effects.{Effect}
+use Rattle.interpreter.specs.declared.effect.Stop.TheVariants.{Refused as RefusedBy, Call as CallBy}
 use Rattle.interpreter.specs.Kernel.{kernel_def}
 use Rattle.interpreter.specs.declared.state.Cpu.{Cpu}
 use Rattle.interpreter.specs.declared.step.Next.{Next}
@@ -216,15 +217,15 @@ module _ (c : Cpu) (r k : List ℕ) (u : ℕ) (p h o x d : List ℕ) where
     unfolding working executing view_of
     exec_by g q = q ∙ rw (← z1, ← z2, ← z3, ← z4, g)
 
-    pub exec_refused : {f : Refusal} {n : Next} → e ≡ RefusedBy f → n ≡ refusing c u f → after n r k p h o ≡ working x d m0 (λ v. executing v w (touch_of v.regs w))
+    pub exec_refused : {f : Refusal} {n : Next} → e ≡ Err (RefusedBy f) → n ≡ refusing c u f → after n r k p h o ≡ working x d m0 (λ v. executing v w (touch_of v.regs w))
     unfolding working planned lay
     exec_refused {f} {n} g q = exec_by g (rw q)
 
-    pub exec_call : {l : Left} → e ≡ CallBy → l ≡ working x d m0 (λ v. calling v (call_in v.cpu v.regs)) → l ≡ working x d m0 (λ v. executing v w (touch_of v.regs w))
+    pub exec_call : {l : Left} → e ≡ Err CallBy → l ≡ working x d m0 (λ v. calling v (call_in v.cpu v.regs)) → l ≡ working x d m0 (λ v. executing v w (touch_of v.regs w))
     unfolding working planned
     exec_call g q = exec_by g q
 
-    pub exec_done : {a : Change} {l : Left} → e ≡ Done a → l ≡ working x d m0 (λ v. does (changing v t a)) → l ≡ working x d m0 (λ v. executing v w (touch_of v.regs w))
+    pub exec_done : {a : Change} {l : Left} → e ≡ Ok a → l ≡ working x d m0 (λ v. does (changing v t a)) → l ≡ working x d m0 (λ v. executing v w (touch_of v.regs w))
     unfolding working planned
     exec_done g q = exec_by g q
 

@@ -1,4 +1,5 @@
 -- How the parts of a recording step meet its definition.
+use Rattle.std.specs.Prelude.{Ok, Err}
 use Rattle.std.proofs.Common.{◌≡◌, ℕ, ◌*◌, ◌/◌, ◌%◌, Bool, true, false, cond, not, ◌&&◌, List, length, sym, refl, ap, ◌∙◌, arith, eq-eqb, ne_eqb}
 use lib.Seq.{sets}
 use Rattle.pages.specs.Bytes.{big}
@@ -7,8 +8,8 @@ use Rattle.interpreter.specs.OpcodeMap.{decode}
 use Rattle.interpreter.specs.Kernel.{kernel_def}
 use Rattle.interpreter.specs.declared.effect.Ins.{Ins}
 use Rattle.interpreter.specs.declared.effect.Change.{Change}
-use Rattle.interpreter.specs.declared.effect.Effect.{Effect}
-use Rattle.interpreter.specs.declared.effect.Effect.TheVariants.{Refused as RefusedBy, Call as CallBy, Done}
+use Rattle.interpreter.specs.Effects.{Effect}
+use Rattle.interpreter.specs.declared.effect.Stop.TheVariants.{Refused as RefusedBy, Call as CallBy}
 use Rattle.interpreter.specs.declared.effect.Refusal.{Refusal}
 use Rattle.interpreter.specs.declared.effect.Refusal.TheVariants.{BadMachine}
 use Rattle.interpreter.specs.declared.effect.Touch.{Touch}
@@ -52,13 +53,13 @@ module _ (c : Cpu) (r : List ℕ) (w : ℕ) {i : Ins} {e : Effect} (h : c.pc % 4
   unfolding wide touched
   look_by {s} {b} z q = let k : calls (decode w) ≡ b = sym (ap (λ n. calls (decode n)) word_as) ∙ z in q ∙ rw k
 
-  pub look_call : {s : Seen} → e ≡ CallBy → s ≡ seen_call (reg r 5) (call_in c r) → s ≡ seen c r w
+  pub look_call : {s : Seen} → e ≡ Err CallBy → s ≡ seen_call (reg r 5) (call_in c r) → s ≡ seen c r w
   look_call z q = look_by (calls_call i pc_as g z) q
 
-  pub look_refused : {s : Seen} {n : Refusal} {t : Touch} → e ≡ RefusedBy n → t ≡ touch_of r w → s ≡ record { wide = false; touch = t } → s ≡ seen c r w
+  pub look_refused : {s : Seen} {n : Refusal} {t : Touch} → e ≡ Err (RefusedBy n) → t ≡ touch_of r w → s ≡ record { wide = false; touch = t } → s ≡ seen c r w
   look_refused z k q = look_by (calls_refused i pc_as g z) (q ∙ rw k)
 
-  pub look_done : {s : Seen} {a : Change} {t : Touch} → e ≡ Done a → t ≡ touch_of r w → s ≡ record { wide = false; touch = t } → s ≡ seen c r w
+  pub look_done : {s : Seen} {a : Change} {t : Touch} → e ≡ Ok a → t ≡ touch_of r w → s ≡ record { wide = false; touch = t } → s ≡ seen c r w
   look_done z k q = look_by (calls_done i pc_as g z) (q ∙ rw k)
 
 -- the touched address is a doubleword's

@@ -1,5 +1,6 @@
 -- A step of ours that is not refused for want of room is a step of the definition's machine on the memory that the pages mean.
 use Rattle.std.proofs.Common.{◌≡◌, ℕ, ◌+◌, ◌^◌, ◌<◌, ◌≤◌, Bool, true, false, cond, not, ltb, leb, List, [], ◌++◌, length, sym, refl, ap, ◌∙◌, arith, ltb-false, le-ltb, le-leb, leb-true, Result, Ok, Err}
+use Rattle.std.specs.Prelude.{Ok, Err}
 use mathlib.Core.Path.{fun_ext}
 use lib.Seq.{sets}
 use Rattle.pages.specs.Bytes.{cell, row}
@@ -10,8 +11,8 @@ use Rattle.pages.specs.declared.memory.StoreError.{StoreError}
 use Rattle.pages.proofs.Laws.Runs.{length_row, row_ext}
 use Rattle.pages.proofs.Laws.Stores.{used_same}
 use Rattle.pages.proofs.Laws.Meaning.{set_means}
-use Rattle.interpreter.specs.declared.effect.Effect.{Effect}
-use Rattle.interpreter.specs.declared.effect.Effect.TheVariants.{Refused as RefusedBy, Call as CallBy, Done}
+use Rattle.interpreter.specs.Effects.{Effect}
+use Rattle.interpreter.specs.declared.effect.Stop.TheVariants.{Refused as RefusedBy, Call as CallBy}
 use Rattle.interpreter.specs.declared.effect.Refusal.{Refusal}
 use Rattle.interpreter.specs.declared.effect.Refusal.TheVariants.{BadMachine, PcMisaligned, Reserved, DelaySlot, DivideByZero, Overflow, AddressError, MemoryFull, NoRoom, NoInput, InputOffset, HintShort, HintText}
 use Rattle.interpreter.specs.declared.effect.Touch.{Touch}
@@ -106,9 +107,9 @@ module _ (c : Cpu) (r k : List ℕ) (m : Memory) (h x d : List ℕ) where
 
     planned_agrees : (t : Touch) (e : Effect) → Agree (planned ours t e) (planned free t e)
     unfolding planned changing
-    planned_agrees t (RefusedBy e) = same refl
-    planned_agrees t CallBy = call_agrees (call_in c r)
-    planned_agrees t (Done e) = same refl
+    planned_agrees t (Err (RefusedBy e)) = same refl
+    planned_agrees t (Err CallBy) = call_agrees (call_in c r)
+    planned_agrees t (Ok e) = same refl
 
     plan_agrees : Agree (plan ours) (plan free)
     unfolding plan executing

@@ -1,9 +1,10 @@
 -- The step repeated: what the loop keeps, and document 01's wording.
 use Rattle.std.proofs.Common.{◌≡◌, ℕ, zero, suc, ◌+◌, ◌-◌, ◌<◌, ◌≤◌, Bool, true, false, cond, not, ◌&&◌, ltb, List, length, sym, refl, ap, ◌∙◌, add-zero, sub-one, arith, ltb-false, ltb-true, Result, Ok, Err}
+use Rattle.std.specs.Prelude.{Ok, Err}
 use native.Mathlib.Nat.{sub-zero}
 use Rattle.pages.specs.declared.memory.StoreError.{StoreError}
-use Rattle.interpreter.specs.declared.effect.Effect.{Effect}
-use Rattle.interpreter.specs.declared.effect.Effect.TheVariants.{Refused as RefusedBy, Call as CallBy, Done}
+use Rattle.interpreter.specs.Effects.{Effect}
+use Rattle.interpreter.specs.declared.effect.Stop.TheVariants.{Refused as RefusedBy, Call as CallBy}
 use Rattle.interpreter.specs.declared.effect.Touch.{Touch}
 use Rattle.interpreter.specs.declared.effect.Refusal.{Refusal}
 use Rattle.interpreter.specs.declared.effect.Refusal.TheVariants.{BadMachine, NoRoom}
@@ -134,9 +135,9 @@ module _ (v : View) where
 
   planned_unrefused : (t : Touch) (e : Effect) → Unrefused (planned v t e)
   unfolding planned changing
-  planned_unrefused t (RefusedBy n) = refuse_unrefused n
-  planned_unrefused t CallBy = calling_unrefused (call_in v.cpu v.regs)
-  planned_unrefused t (Done e) = unrefused refl
+  planned_unrefused t (Err (RefusedBy n)) = refuse_unrefused n
+  planned_unrefused t (Err CallBy) = calling_unrefused (call_in v.cpu v.regs)
+  planned_unrefused t (Ok e) = unrefused refl
 
   plan_unrefused : Unrefused (plan v)
   unfolding plan executing

@@ -1,4 +1,5 @@
 -- The step that a record shows: how the code meets it, and that it is the step of every memory that shows the same eight bytes.
+use Rattle.std.specs.Prelude.{Option, Some, None, Ok, Err, unwrap_or}
 use Rattle.std.proofs.Common.{◌≡◌, ℕ, ◌*◌, ◌/◌, ◌%◌, ◌^◌, ◌<◌, Bool, true, false, cond, eqb, List, [], sym, refl, ap, ◌∙◌, mod-eq_of_lt, eqb-true}
 use Rattle.pages.specs.Bytes.{big, bytes_of}
 use Rattle.pages.specs.Memory.{Memory, write}
@@ -9,8 +10,8 @@ use Rattle.interpreter.specs.OpcodeMap.{decode}
 use Rattle.interpreter.specs.Kernel.{does, kernel_def, touching, touch_def}
 use Rattle.interpreter.specs.declared.effect.Ins.{Ins}
 use Rattle.interpreter.specs.declared.effect.Change.{Change}
-use Rattle.interpreter.specs.declared.effect.Effect.{Effect}
-use Rattle.interpreter.specs.declared.effect.Effect.TheVariants.{Refused as RefusedBy, Call as CallBy, Done}
+use Rattle.interpreter.specs.Effects.{Effect}
+use Rattle.interpreter.specs.declared.effect.Stop.TheVariants.{Refused as RefusedBy, Call as CallBy}
 use Rattle.interpreter.specs.declared.effect.Refusal.{Refusal}
 use Rattle.interpreter.specs.declared.effect.Refusal.TheVariants.{PcMisaligned}
 use Rattle.interpreter.specs.declared.effect.Touch.{Touch}
@@ -22,12 +23,12 @@ use Rattle.interpreter.specs.declared.linux.Call.TheVariants.{Answer as Reply, H
 use Rattle.interpreter.specs.declared.shown.Made.{Made}
 use Rattle.interpreter.specs.declared.shown.Made.TheVariants.{Refused, Wide, Stepped}
 use Rattle.interpreter.specs.Machine.{reg, set_reg, changed, counted, machine}
-use Rattle.interpreter.specs.Plan.{View, Plan, does as doing, storing, changing, eight_at, keying, replying, exiting, call_in, calling, ins_of, touch_of, planned, executing}
+use Rattle.interpreter.specs.Plan.{View, Plan, does as doing, store_of, storing, changing, eight_at, keying, replying, exiting, call_in, calling, ins_of, touch_of, planned, executing}
 use Rattle.interpreter.specs.Step.{Left, lay, settled, view_of, working}
 use Rattle.interpreter.specs.Recording.{calls, call_wide, call_touch, wide, touched}
 use Rattle.interpreter.specs.Ideal.{ideal, ideal_view, remember}
 use Rattle.interpreter.specs.Shown.{shown_at, effect_shown, plan_shown, Shown, shown, made_by, unless_refused, made_with, step_shown}
-use Rattle.interpreter.specs.Parts.{after, store_of, called_shown, call_shown, change_shown}
+use Rattle.interpreter.specs.Parts.{after, called_shown, call_shown, change_shown}
 use Rattle.interpreter.proofs.Laws.Tests.{no_true}
 use Rattle.interpreter.proofs.Laws.Dests.{calls_call, calls_done}
 
@@ -42,22 +43,15 @@ pub given_eight : {t : Touch} (a x : ℕ) → t ≡ Eight a → x < 2 ^ 64 → x
 unfolding shown_at
 given_eight a x e h = rw e (sym (write_back (λ b. 0) a x h))
 
-pub kept_stored : {t : Touch} {b : Bool} (a x v : ℕ) → t ≡ Eight a → b ≡ true → v < 2 ^ 64 → v ≡ eight_at (remember (shown_at t x) (store_of t b v)) t
+pub kept_eight : {t : Touch} (a x : ℕ) (m : Option ℕ) → t ≡ Eight a → x < 2 ^ 64 → unwrap_or m x < 2 ^ 64 → unwrap_or m x ≡ eight_at (remember (shown_at t x) (store_of t m)) t
 unfolding shown_at
-kept_stored a x v g s h = rw (g, s) (sym (write_back (write (λ b. 0) a (bytes_of 8 x)) a v h))
-
-pub kept_same : {t : Touch} {b : Bool} (a x v : ℕ) → t ≡ Eight a → b ≡ false → x < 2 ^ 64 → x ≡ eight_at (remember (shown_at t x) (store_of t b v)) t
-unfolding shown_at
-kept_same a x v g s h = rw (g, s) (sym (write_back (λ b. 0) a x h))
-
-store_of_lem : (t : Touch) (e : Change) → store_of t e.store e.mem ≡ storing t e
-store_of_lem Nothing e = refl
-store_of_lem (Eight a) e = refl
+kept_eight a x (Some v) g h l = rw g (sym (write_back (write (λ b. 0) a (bytes_of 8 x)) a v l))
+kept_eight a x None g h l = rw g (sym (write_back (λ b. 0) a x h))
 
 pub change_made : (c : Cpu) (r k : List ℕ) (t : Touch) (x : ℕ) (e : Change) {l : List ℕ} {b : Cpu} {y : ℕ} → l ≡ set_reg r e.dest e.value → b ≡ changed c e
-    → y ≡ eight_at (remember (shown_at t x) (store_of t e.store e.mem)) t → shown (Stepped b t y) l k ≡ change_shown c r k t x e
+    → y ≡ eight_at (remember (shown_at t x) (storing t e)) t → shown (Stepped b t y) l k ≡ change_shown c r k t x e
 unfolding change_shown
-change_made c r k t x e p q s = rw (p, q, s, store_of_lem t e)
+change_made c r k t x e p q s = rw (p, q, s)
 
 -- a call that the step makes too, on a machine with no bytes
 module _ (c : Cpu) (r k : List ℕ) (x : ℕ) where
@@ -104,16 +98,16 @@ module _ (c : Cpu) (r k : List ℕ) (x : ℕ) where
 -- ---- the whole step
 
 abbrev pub unrefused : Effect → Bool
-unrefused (RefusedBy n) = false
-unrefused CallBy = true
-unrefused (Done e) = true
+unrefused (Err (RefusedBy n)) = false
+unrefused (Err CallBy) = true
+unrefused (Ok e) = true
 
 -- what is not refused stands at an aligned pc
 pub pc_aligned : (i : Ins) {e : Effect} → e ≡ kernel_def i → unrefused e ≡ true → i.pc % 4 ≡ 0
 unfolding kernel_def
 pc_aligned i {e} y h = go (eqb (i.pc % 4) 0) refl (sym (ap unrefused y) ∙ h)
   where
-    go : (b : Bool) → eqb (i.pc % 4) 0 ≡ b → unrefused (cond b (does (decode i.word) i) (RefusedBy PcMisaligned)) ≡ true → i.pc % 4 ≡ 0
+    go : (b : Bool) → eqb (i.pc % 4) 0 ≡ b → unrefused (cond b (does (decode i.word) i) (Err (RefusedBy PcMisaligned))) ≡ true → i.pc % 4 ≡ 0
     go true q z = eqb-true _ _ q
     go false q z = no_true (sym z)
 
@@ -174,12 +168,12 @@ module _ (c : Cpu) (r : List ℕ) (w : ℕ) where
   made_by_lem k x y = rw (← y, plan_by k (shown_at (touched c r w) x) y)
 
   call_made : (k : List ℕ) (x : ℕ) → calls (decode w) ≡ true
-      → call_shown (counted c) r k x ≡ cond (wide c r w) (shown Wide r k) (made_by r k (shown_at (touched c r w) x) (touched c r w) (planned (sees k (shown_at (touched c r w) x)) (touch_of r w) CallBy))
+      → call_shown (counted c) r k x ≡ cond (wide c r w) (shown Wide r k) (made_by r k (shown_at (touched c r w) x) (touched c r w) (planned (sees k (shown_at (touched c r w) x)) (touch_of r w) (Err CallBy)))
   unfolding call_shown called_shown wide planned ideal_view call_in counted
   call_made k x h = rw (h, touched_call h)
 
   done_made : (k : List ℕ) (x : ℕ) (f : Change) → calls (decode w) ≡ false
-      → change_shown (counted c) r k (touch_of r w) x f ≡ cond (wide c r w) (shown Wide r k) (made_by r k (shown_at (touched c r w) x) (touched c r w) (planned (sees k (shown_at (touched c r w) x)) (touch_of r w) (Done f)))
+      → change_shown (counted c) r k (touch_of r w) x f ≡ cond (wide c r w) (shown Wide r k) (made_by r k (shown_at (touched c r w) x) (touched c r w) (planned (sees k (shown_at (touched c r w) x)) (touch_of r w) (Ok f)))
   unfolding change_shown wide planned changing ideal_view
   done_made k x f h = rw (h, touched_other h)
 
@@ -196,15 +190,15 @@ module _ (c : Cpu) (r : List ℕ) (w : ℕ) where
     unfolding ins_of
     word_is = rw yi
 
-    pub shown_refused : {f : Refusal} → e ≡ RefusedBy f → shown (Refused f) r k ≡ step_shown c r k w x
+    pub shown_refused : {f : Refusal} → e ≡ Err (RefusedBy f) → shown (Refused f) r k ≡ step_shown c r k w x
     shown_refused z = sym (made_by_lem k x (sym z ∙ effect_is))
 
-    pub shown_call : {s : Shown} → e ≡ CallBy → s ≡ call_shown n r k x → s ≡ step_shown c r k w x
+    pub shown_call : {s : Shown} → e ≡ Err CallBy → s ≡ call_shown n r k x → s ≡ step_shown c r k w x
     shown_call z q =
         let h : calls (decode w) ≡ true = sym (ap (λ v. calls (decode v)) word_is) ∙ calls_call i (aligned (ap unrefused z)) ye z in
         q ∙ rw yn (call_made k x h) ∙ sym (made_by_lem k x (sym z ∙ effect_is))
 
-    pub shown_done : {s : Shown} {f : Change} → e ≡ Done f → s ≡ change_shown n r k t x f → s ≡ step_shown c r k w x
+    pub shown_done : {s : Shown} {f : Change} → e ≡ Ok f → s ≡ change_shown n r k t x f → s ≡ step_shown c r k w x
     shown_done {f = f} z q =
         let h : calls (decode w) ≡ false = sym (ap (λ v. calls (decode v)) word_is) ∙ calls_done i (aligned (ap unrefused z)) ye z in
         q ∙ rw (yn, yt) (done_made k x f h) ∙ sym (made_by_lem k x (sym z ∙ effect_is))

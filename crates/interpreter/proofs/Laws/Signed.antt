@@ -17,19 +17,26 @@ pub magnitude_low : (n x : ℕ) → x < 2 ^ (n - 1) → x ≡ magnitude n x
 unfolding magnitude
 magnitude_low n x h = sym (rw (lt-leb _ _ h))
 
+halves : (n : ℕ) → 0 < n → 2 ^ n ≡ 2 ^ (n - 1) + 2 ^ (n - 1)
+halves n p =
+    let e : 1 + (n - 1) ≡ n = omega arith in
+    omega (arith, rw e at (pow-add 2 1 (n - 1)))
+
+-- by halves, none of which is above 64 bits
+pub magnitude_half : (n x : ℕ) → 0 < n → 2 ^ (n - 1) ≤ x → 2 ^ (n - 1) - (x - 2 ^ (n - 1)) ≡ magnitude n x
+magnitude_half n x p h = omega (arith, halves n p, magnitude_high n x h)
+
+pub all_ones : (n : ℕ) → 0 < n → 2 ^ (n - 1) - 1 + 2 ^ (n - 1) ≡ 2 ^ n - 1
+all_ones n p = let h : 0 < 2 ^ (n - 1) = pow_pos (n - 1) in omega (arith, halves n p, h)
+
 -- ---- its bounds
 
 pub magnitude_le : (n : ℕ) → 0 < n → (x : ℕ) → magnitude n x ≤ 2 ^ (n - 1)
 magnitude_le n p x = go (dec_lt x (2 ^ (n - 1)))
   where
-    halves : 2 ^ n ≡ 2 ^ (n - 1) + 2 ^ (n - 1)
-    halves =
-        let e : 1 + (n - 1) ≡ n = omega arith in
-        omega (arith, rw e at (pow-add 2 1 (n - 1)))
-
     go : Dec (x < 2 ^ (n - 1)) → magnitude n x ≤ 2 ^ (n - 1)
     go (yes d) = omega (arith, magnitude_low n x d)
-    go (no d) = omega (arith, halves, magnitude_high n x (omega arith))
+    go (no d) = omega (arith, halves n p, magnitude_high n x (omega arith))
 
 pub magnitude_fits : (n : ℕ) → 0 < n → (x : ℕ) → magnitude n x ≤ 2 ^ n
 magnitude_fits n p x = le_trans (magnitude_le n p x) (pow_mono {i = n - 1} {j = n} (omega arith))

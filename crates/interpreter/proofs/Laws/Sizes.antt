@@ -1,5 +1,6 @@
 -- Every step keeps its pages bytes, and its state within what 360 bytes can say.
 use Rattle.std.proofs.Common.{◌≡◌, ℕ, ◌+◌, ◌-◌, ◌%◌, ◌^◌, ◌<◌, Bool, true, false, cond, eqb, ltb, List, length, set, refl, ◌∙◌, mod-lt, arith, lit<, length-set, get_or-set_other, get_or-set_same, Result, Ok, Err}
+use Rattle.std.specs.Prelude.{Ok, Err}
 use native.Mathlib.Decide.{dec_lt, ℕ_discrete}
 use lib.Seq.{set_out}
 use Rattle.pages.specs.Bytes.{cell, row, big, bytes_of}
@@ -10,8 +11,8 @@ use Rattle.pages.proofs.Laws.Meaning.{byte_small}
 use Rattle.pages.proofs.Laws.Stores.{set_bytes}
 use Rattle.interpreter.specs.declared.effect.Change.{Change}
 use Rattle.interpreter.specs.declared.effect.Ins.{Ins}
-use Rattle.interpreter.specs.declared.effect.Effect.{Effect}
-use Rattle.interpreter.specs.declared.effect.Effect.TheVariants.{Refused, Call as CallBy, Done}
+use Rattle.interpreter.specs.Effects.{Effect}
+use Rattle.interpreter.specs.declared.effect.Stop.TheVariants.{Refused, Call as CallBy}
 use Rattle.interpreter.specs.declared.effect.Touch.{Touch}
 use Rattle.interpreter.specs.declared.effect.Touch.TheVariants.{Nothing, Eight}
 use Rattle.interpreter.specs.declared.effect.Refusal.{Refusal}
@@ -324,11 +325,11 @@ module _ (v : View) (z : Sized v.cpu v.regs v.key) (b : (a : ℕ) → v.memory a
   calling_fine (Write s) m = write_fine s
   calling_fine Hint m = hinting_fine
 
-  planned_fine : (t : Touch) (e : Effect) → ((a : Change) → e ≡ Done a → Bounded a) → Fine (planned v t e)
+  planned_fine : (t : Touch) (e : Effect) → ((a : Change) → e ≡ Ok a → Bounded a) → Fine (planned v t e)
   unfolding planned
-  planned_fine t (Refused n) h = refuse_fine n
-  planned_fine t CallBy h = calling_fine (call_in v.cpu v.regs) (call_modest v.cpu v.regs z.regs)
-  planned_fine t (Done e) h = change_fine t e (h e refl)
+  planned_fine t (Err (Refused n)) h = refuse_fine n
+  planned_fine t (Err CallBy) h = calling_fine (call_in v.cpu v.regs) (call_modest v.cpu v.regs z.regs)
+  planned_fine t (Ok e) h = change_fine t e (h e refl)
 
   eight_lt : (t : Touch) → eight_at v.memory t < 2 ^ 64
   eight_lt Nothing = lit< tt

@@ -1,9 +1,9 @@
 -- Which instructions touch eight bytes, by the opcode field.
 use Rattle.std.proofs.Common.{◌≡◌, ℕ, zero, suc, ◌<◌, Bool, true, false, cond, not, ◌&&◌, ◌||◌, T, eqb, sym, refl, ◌∙◌, arith}
-use mathlib.Core.Option.{Option, some, none}
+use Rattle.std.specs.Prelude.{Option, Some, None, is_some}
 use native.Mathlib.Decide.{ℕ_discrete}
 use Rattle.interpreter.specs.Isa.{funct_of, rt_of, Instruction, alu, imm, hilo, load, store, conditional, branch, jump, other, reserved}
-use Rattle.interpreter.specs.OpcodeMap.{find, found, is_some, accesses, immediates, loads, stores, conditionals, branches, jumps, memory, by_opcode, registers, special, special2, regimm, decode_by}
+use Rattle.interpreter.specs.OpcodeMap.{find, found, accesses, immediates, loads, stores, conditionals, branches, jumps, memory, by_opcode, registers, special, special2, regimm, decode_by}
 use Rattle.interpreter.specs.Kernel.{touching}
 use Rattle.interpreter.specs.declared.effect.Touch.TheVariants.{Nothing, Eight}
 
@@ -34,8 +34,8 @@ at f (suc n) t k h = go (ℕ_discrete k n) (at f n (both_left (below f n) (f n) 
 nothing : {A : Type 0} (f : A → Instruction) (x : Option A) (rest : Instruction) (a : ℕ)
     → ((y : A) → touching (f y) a ≡ Nothing) → touching rest a ≡ Nothing → touching (found f x rest) a ≡ Nothing
 unfolding found
-nothing f (some y) rest a h r = h y
-nothing f none rest a h r = r
+nothing f (Some y) rest a h r = h y
+nothing f None rest a h r = r
 
 module _ (a : ℕ) where
   pub special_nothing : (f : ℕ) → touching (special f) a ≡ Nothing
@@ -59,10 +59,10 @@ module _ (a : ℕ) where
     where
       go : (l : Option _) (s : Option _) (c : Option _)
           → touching (found load l (found store s (found conditional c reserved))) a ≡ cond (is_some l || (is_some s || is_some c)) (Eight a) Nothing
-      go (some l) s c = refl
-      go none (some s) c = refl
-      go none none (some c) = refl
-      go none none none = refl
+      go (Some l) s c = refl
+      go None (Some s) c = refl
+      go None None (Some c) = refl
+      go None None None = refl
 
 -- ---- no code of a load or store is anything else
 
@@ -80,9 +80,9 @@ not_false : (b : Bool) → T (not b) → b ≡ false
 not_false true t = absurd t
 not_false false t = refl
 
-none_of : {A : Type 0} (x : Option A) → T (not (is_some x)) → x ≡ none
-none_of (some y) t = absurd t
-none_of none t = refl
+none_of : {A : Type 0} (x : Option A) → T (not (is_some x)) → x ≡ None
+none_of (Some y) t = absurd t
+none_of None t = refl
 
 module _ (op w a : ℕ) where
   quiet : accesses op ≡ false → touching (decode_by op w) a ≡ Nothing
@@ -113,9 +113,9 @@ module _ (op w a : ℕ) where
       let e0 : eqb op 0x00 ≡ false = not_false (eqb op 0x00) (both_left (not (eqb op 0x00)) _ u) in
       let e1 : eqb op 0x01 ≡ false = not_false (eqb op 0x01) (both_left (not (eqb op 0x01)) _ v) in
       let e2 : eqb op 0x1c ≡ false = not_false (eqb op 0x1c) (both_left (not (eqb op 0x1c)) _ x) in
-      let n0 : find op jumps ≡ none = none_of (find op jumps) (both_left (not (is_some (find op jumps))) _ y) in
-      let n1 : find op branches ≡ none = none_of (find op branches) (both_left (not (is_some (find op branches))) _ z) in
-      let n2 : find op immediates ≡ none = none_of (find op immediates) (both_right (not (is_some (find op branches))) _ z) in
+      let n0 : find op jumps ≡ None = none_of (find op jumps) (both_left (not (is_some (find op jumps))) _ y) in
+      let n1 : find op branches ≡ None = none_of (find op branches) (both_left (not (is_some (find op branches))) _ z) in
+      let n2 : find op immediates ≡ None = none_of (find op immediates) (both_right (not (is_some (find op branches))) _ z) in
       rw (e0, e1, e2, n0, n1, n2) (memory_touches a op ∙ rw q)
 
   pub touches_by : op < 64 → (b : Bool) → b ≡ accesses op → touching (decode_by op w) a ≡ cond b (Eight a) Nothing

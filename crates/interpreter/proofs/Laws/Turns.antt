@@ -1,12 +1,12 @@
 -- Many steps in a row: from the parts of a quick step to the definition's, and how the steps add up.
 use Rattle.std.proofs.Common.{◌≡◌, ℕ, zero, suc, ◌+◌, ◌-◌, ◌*◌, ◌/◌, ◌%◌, ◌^◌, ◌<◌, true, false, List, sym, refl, ap, ◌∙◌, add-one, arith, eq-eqb, Ok}
+use Rattle.std.specs.Prelude.{Option, Some, Ok}
 use Rattle.pages.specs.Bytes.{big}
 use Rattle.pages.specs.Pages.{byte_at}
 use Rattle.pages.specs.Calls.{stored}
 use Rattle.interpreter.specs.declared.effect.Ins.{Ins}
 use Rattle.interpreter.specs.declared.effect.Change.{Change}
-use Rattle.interpreter.specs.declared.effect.Effect.{Effect}
-use Rattle.interpreter.specs.declared.effect.Effect.TheVariants.{Done}
+use Rattle.interpreter.specs.Effects.{Effect, seeing}
 use Rattle.interpreter.specs.declared.effect.Touch.{Touch}
 use Rattle.interpreter.specs.declared.effect.Touch.TheVariants.{Nothing, Eight}
 use Rattle.interpreter.specs.declared.state.Cpu.{Cpu}
@@ -18,7 +18,6 @@ use Rattle.interpreter.specs.declared.window.Pair.{Pair}
 use Rattle.interpreter.specs.Words.{plus}
 use Rattle.interpreter.specs.OpcodeMap.{decode_by, decode}
 use Rattle.interpreter.specs.Isa.{opcode_of, rs_of}
-use Rattle.interpreter.specs.Effects.{seeing}
 use Rattle.interpreter.specs.Loads.{address_of}
 use Rattle.interpreter.specs.Kernel.{does, kernel_def, touching, touch_def}
 use Rattle.interpreter.specs.declared.step.Answer.TheVariants.{Stepped}
@@ -33,12 +32,12 @@ use Rattle.interpreter.proofs.Laws.Plans.{exec_done, change_done, step_done}
 use Rattle.interpreter.proofs.Laws.Runs.{more_more, turn_good, run_holds, run_turn}
 
 -- at an aligned pc a quick change is the kernel's
-aligned_kernel : (i : Ins) {f : Effect} {e : Change} → i.pc % 4 ≡ 0 → Agrees f (does (decode i.word) i) → f ≡ Done e → kernel_def i ≡ Done e
+aligned_kernel : (i : Ins) {f : Option Change} {e : Change} → i.pc % 4 ≡ 0 → Agrees f (does (decode i.word) i) → f ≡ Some e → kernel_def i ≡ Ok e
 unfolding kernel_def Agrees
 aligned_kernel i {f} {e} h a g = rw (eq-eqb _ _ h) (a e g)
 
 -- a quick answer by the opcode of the word that the instruction was made of
-pub slow_agrees : (c : Cpu) (r : List ℕ) (w y : ℕ) (f : Effect) {o : ℕ} {i : Ins} → i ≡ ins_of c r w y → o ≡ opcode_of w → Agrees f (does (decode_by o i.word) i) → Agrees f (does (decode i.word) i)
+pub slow_agrees : (c : Cpu) (r : List ℕ) (w y : ℕ) (f : Option Change) {o : ℕ} {i : Ins} → i ≡ ins_of c r w y → o ≡ opcode_of w → Agrees f (does (decode_by o i.word) i) → Agrees f (does (decode i.word) i)
 unfolding ins_of
 slow_agrees c r w y f {i = i} z e a = let q : opcode_of i.word ≡ opcode_of w = ap (λ (n : Ins). opcode_of n.word) z in agrees_as f a (ap (λ (n : ℕ). does (decode_by n i.word) i) (e ∙ sym q))
 
@@ -50,18 +49,18 @@ module _ (c : Cpu) (k : Core) (r : List ℕ) (w y : ℕ) {b : Cpu} {i : Ins} (z1
   ins_is : i ≡ ins_of (cpu_with c k 0) r w y
   ins_is = z2 ∙ ap (λ n. ins_of n r w y) z1
 
-  pub kernel_is : {f : Effect} {e : Change} → f ≡ kernel_def i → f ≡ Done e → kernel_def (ins_of (cpu_with c k 0) r w y) ≡ Done e
+  pub kernel_is : {f : Effect} {e : Change} → f ≡ kernel_def i → f ≡ Ok e → kernel_def (ins_of (cpu_with c k 0) r w y) ≡ Ok e
   kernel_is q g = rw (← ins_is) (sym q ∙ g)
 
-  pub quick_kernel : {f : Effect} {e : Change} → k.pc % 4 ≡ 0 → Agrees f (does (decode i.word) i) → f ≡ Done e → kernel_def (ins_of (cpu_with c k 0) r w y) ≡ Done e
+  pub quick_kernel : {f : Option Change} {e : Change} → k.pc % 4 ≡ 0 → Agrees f (does (decode i.word) i) → f ≡ Some e → kernel_def (ins_of (cpu_with c k 0) r w y) ≡ Ok e
   quick_kernel h a g = rw (← ins_is) (aligned_kernel i (rw ins_is (ins_pc c k r w y h)) a g)
 
   -- the same of an instruction that touches no memory, and of one whose eight bytes are in the page
-  pub quiet_kernel : {f : Effect} {e : Change} → k.pc % 4 ≡ 0 → Quiet f i → f ≡ Done e → kernel_def (ins_of (cpu_with c k 0) r w y) ≡ Done e
+  pub quiet_kernel : {f : Option Change} {e : Change} → k.pc % 4 ≡ 0 → Quiet f i → f ≡ Some e → kernel_def (ins_of (cpu_with c k 0) r w y) ≡ Ok e
   unfolding Quiet Agrees
   quiet_kernel h a g = quick_kernel h (λ e q. (a e q).0) g
 
-  pub quiet_touch : {f : Effect} {e : Change} → Quiet f i → f ≡ Done e → Nothing ≡ touch_of r w
+  pub quiet_touch : {f : Option Change} {e : Change} → Quiet f i → f ≡ Some e → Nothing ≡ touch_of r w
   unfolding Quiet touch_of touch_def ins_of
   quiet_touch {e = e} a g = sym (ap (λ n. touching (decode n.word) (address_of w (reg r (rs_of w)) / 8 * 8)) (sym ins_is) ∙ (a e g).1 _)
 
@@ -69,14 +68,14 @@ module _ (c : Cpu) (k : Core) (r : List ℕ) (w y : ℕ) {b : Cpu} {i : Ins} (z1
   unfolding seeing ins_of
   seeing_is x = ap (λ n. seeing n x) ins_is
 
-  pub reach_kernel : (p : List ℕ) (u : ℕ) (v : Window) {f : Effect} {e : Change} → k.pc % 4 ≡ 0 → Reaches p u v i f → f ≡ Done e
-      → kernel_def (ins_of (cpu_with c k 0) r w (big 8 (byte_at p u) (eight_of i))) ≡ Done e
+  pub reach_kernel : (p : List ℕ) (u : ℕ) (v : Window) {f : Option Change} {e : Change} → k.pc % 4 ≡ 0 → Reaches p u v i f → f ≡ Some e
+      → kernel_def (ins_of (cpu_with c k 0) r w (big 8 (byte_at p u) (eight_of i))) ≡ Ok e
   unfolding Reaches Agrees seeing
   reach_kernel p u v h a g =
       let x = big 8 (byte_at p u) (eight_of i) in
       rw (← seeing_is x) (aligned_kernel (seeing i x) (rw ins_is (ins_pc c k r w y h)) (λ e q. (a e q).0) g)
 
-  module _ (p : List ℕ) (u : ℕ) (v : Window) {f : Effect} {e : Change} (a : Reaches p u v i f) (g : f ≡ Done e) {o : ℕ} (z : o ≡ address_of i.word i.rs) where
+  module _ (p : List ℕ) (u : ℕ) (v : Window) {f : Option Change} {e : Change} (a : Reaches p u v i f) (g : f ≡ Some e) {o : ℕ} (z : o ≡ address_of i.word i.rs) where
     pub reach_touch : Eight (o / 8 * 8) ≡ touch_of r w
     unfolding Reaches touch_of touch_def ins_of
     reach_touch = ap (λ (x : ℕ). Eight (x / 8 * 8)) z ∙ sym ((a e g).1 (eight_of i)) ∙ ap (λ n. touching (decode n.word) (eight_of n)) ins_is
@@ -93,7 +92,7 @@ module _ (c : Cpu) (k : Core) (r : List ℕ) (w y : ℕ) {b : Cpu} {i : Ins} (z1
   ins_key h = h ∙ ap (λ (x : Ins). key_of x.word) (sym ins_is)
 
 module _ (c : Cpu) (k : Core) (w u : ℕ) (r p : List ℕ) {t : Touch} {y : ℕ} {e : Change} {b : Pair} where
-  pub turned : t ≡ touch_of r w → y ≡ eight_at (byte_at p u) t → kernel_def (ins_of (cpu_with c k 0) r w y) ≡ Done e → Both p u b
+  pub turned : t ≡ touch_of r w → y ≡ eight_at (byte_at p u) t → kernel_def (ins_of (cpu_with c k 0) r w y) ≡ Ok e → Both p u b
       → {q : Turn} {r' p' : List ℕ} → Completed r p u b t e q r' p' → Turned c k w u r p q r' p'
   unfolding ins_of counted changed cpu_with core_after later
   turned z1 z2 z3 s {q} g =

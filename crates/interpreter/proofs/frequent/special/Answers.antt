@@ -2,7 +2,7 @@ use Rattle.interpreter.specs.OpcodeMap.{find, found, special, jump_registers, ot
 use Rattle.interpreter.specs.Alu.{result}
 use Rattle.interpreter.specs.HiLo.{hi_lo}
 use Rattle.interpreter.specs.Kernel.{jumping, does_other, does}
-use Rattle.interpreter.proofs.Laws.Frequent.{quiet_special, quiet_call}
+use Rattle.interpreter.proofs.Laws.Frequent.{quiet_special, quiet_none}
 use Rattle.interpreter.proofs.frequent.special.Goals as goal
 
 pub returns-in-64 : goal.returns-in-64
@@ -31,11 +31,11 @@ returns-in-71 c = quiet_special _ c.requires 0x7 c.in-71.is (simp (c.to_rd-in-71
 
 pub returns-in-72 : goal.returns-in-72
 unfolding find found special jump_registers others hilos registers shifts sums logic result hi_lo jumping does_other does
-returns-in-72 c = quiet_special _ c.requires 0x8 c.in-72.is (simp c.going.ensures)
+returns-in-72 c = quiet_special _ c.requires 0x8 c.in-72.is (simp (c.ok.ensures.value, c.going.ensures))
 
 pub returns-in-73 : goal.returns-in-73
 unfolding find found special jump_registers others hilos registers shifts sums logic result hi_lo jumping does_other does
-returns-in-73 c = quiet_special _ c.requires 0x9 c.in-73.is (simp (c.going-in-73.ensures, c.decode.ensures, c.link.ensures))
+returns-in-73 c = quiet_special _ c.requires 0x9 c.in-73.is (simp (c.ok-in-73.ensures.value, c.going-in-73.ensures, c.decode.ensures, c.link.ensures))
 
 pub returns-in-74 : goal.returns-in-74
 unfolding find found special jump_registers others hilos registers shifts sums logic result hi_lo jumping does_other does
@@ -142,4 +142,4 @@ unfolding find found special jump_registers others hilos registers shifts sums l
 returns-in-127 c = quiet_special _ c.requires 0x3f c.in-127.is (simp (c.to_rd-in-127.ensures, c.shift_signed-in-127.ensures, c.shamt-in-127.ensures))
 
 pub returns-in_default : goal.returns-in_default
-returns-in_default c = quiet_call _
+returns-in_default c = quiet_none _

@@ -7,5 +7,5 @@ put_doubleword-requires c = (c.requires.0, covered_at c.args.w _ c.in-Eight.is c
 pub returns-in-Nothing : goal.returns-in-Nothing
 returns-in-Nothing c = (rw c.in-Nothing.is, λ v s. s)
 
-pub returns-else-e : goal.returns-else-e
-returns-else-e c = (rw (c.in-Eight.is, c.if-e.false), λ v s. s)
+pub returns-in_default : goal.returns-in_default
+returns-in_default c = (rw (c.in-Eight.is, c.in_default.is), λ v s. s)

@@ -15,7 +15,7 @@ rarely-requires c = (c.window_of-d.ensures, sym c.covers.ensures ∙ on _ c.if-n
 
 pub complete-requires : goal.complete-requires
 unfolding touch_of
-complete-requires c = (c.window_of-d.ensures, sym c.covers.ensures ∙ on _ c.if-not-covers.false-raw, λ a e. touch_even _ _ a (sym c.touch_of-t.ensures ∙ e), kernel_dest _ _ refl (quick_kernel _ _ _ _ _ c.with_core.ensures c.ins_of-i.ensures c.requires.1 (slow_agrees _ _ _ _ _ c.ins_of-i.ensures c.decode.ensures c.elsewhere-effect.ensures) c.in-Done.is))
+complete-requires c = (c.window_of-d.ensures, sym c.covers.ensures ∙ on _ c.if-not-covers.false-raw, λ a e. touch_even _ _ a (sym c.touch_of-t.ensures ∙ e), kernel_dest _ _ refl (quick_kernel _ _ _ _ _ c.with_core.ensures c.ins_of-i.ensures c.requires.1 (slow_agrees _ _ _ _ _ c.ins_of-i.ensures c.decode.ensures c.elsewhere-effect.ensures) c.in-Some.is))
 
 pub returns : goal.returns
-returns c = turned _ _ _ _ _ _ c.touch_of-t.ensures c.touched-mem.ensures (quick_kernel _ _ _ _ _ c.with_core.ensures c.ins_of-i.ensures c.requires.1 (slow_agrees _ _ _ _ _ c.ins_of-i.ensures c.decode.ensures c.elsewhere-effect.ensures) c.in-Done.is) c.window_of-d.ensures c.complete.ensures
+returns c = turned _ _ _ _ _ _ c.touch_of-t.ensures c.touched-mem.ensures (quick_kernel _ _ _ _ _ c.with_core.ensures c.ins_of-i.ensures c.requires.1 (slow_agrees _ _ _ _ _ c.ins_of-i.ensures c.decode.ensures c.elsewhere-effect.ensures) c.in-Some.is) c.window_of-d.ensures c.complete.ensures

@@ -1,8 +1,6 @@
-use Rattle.interpreter.proofs.Laws.Shown.{kept_stored, kept_same}
+use Rattle.std.proofs.Common.{◌∙◌}
+use Rattle.interpreter.proofs.Laws.Shown.{kept_eight}
 use Rattle.interpreter.proofs.shown.kept.Goals as goal
 
-pub returns-then-store : goal.returns-then-store
-returns-then-store c = kept_stored _ _ _ c.in-Eight.is c.if-store.true c.ranges.mem.fits
-
-pub returns-else-store : goal.returns-else-store
-returns-else-store c = kept_same _ _ _ c.in-Eight.is c.if-store.false c.ranges.x.fits
+pub returns-in-Eight : goal.returns-in-Eight
+returns-in-Eight c = c.unwrap_or.ensures ∙ kept_eight _ _ _ c.in-Eight.is c.ranges.x.fits (rw c.unwrap_or.ensures at c.unwrap_or.type_inv)

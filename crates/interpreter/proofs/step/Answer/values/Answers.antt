@@ -20,4 +20,4 @@ returns-in-Exited c = c.said-in-Exited.ensures ∙ rw c.in-Exited.is
 
 pub returns-in-Refused : goal.returns-in-Refused
 unfolding values_of
-returns-in-Refused c = c.said-in-Refused.ensures ∙ rw (c.in-Refused.is, c.number.ensures)
+returns-in-Refused c = c.said-in-Refused.ensures ∙ rw (c.in-Refused.is, c.from.ensures)

@@ -1,7 +1,0 @@
-use Rattle.interpreter.specs.Loads.{loaded}
-use Rattle.interpreter.specs.Kernel.{does}
-use Rattle.interpreter.proofs.access.lb.Goals as goal
-
-pub returns : goal.returns
-unfolding does loaded
-returns c = simp (c.in-Here.is, c.to_rt.ensures, c.sext_byte.ensures, c.byte_at.ensures, c.offset.ensures)

@@ -1,7 +1,0 @@
-use Rattle.interpreter.specs.Loads.{loaded}
-use Rattle.interpreter.specs.Kernel.{does}
-use Rattle.interpreter.proofs.access.ldr.Goals as goal
-
-pub returns : goal.returns
-unfolding does loaded
-returns c = simp (c.in-Here.is, c.to_rt.ensures, c.ldr.ensures, c.offset.ensures)

@@ -1,7 +1,0 @@
-use Rattle.interpreter.specs.Loads.{loaded}
-use Rattle.interpreter.specs.Kernel.{does}
-use Rattle.interpreter.proofs.access.lh.Goals as goal
-
-pub returns : goal.returns
-unfolding does loaded
-returns c = simp (c.in-Here.is, c.loading.ensures, c.sext_half.ensures, c.half_at.ensures, c.offset.ensures)

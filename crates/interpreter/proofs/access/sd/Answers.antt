@@ -1,7 +1,0 @@
-use Rattle.interpreter.specs.Stores.{stored}
-use Rattle.interpreter.specs.Kernel.{does}
-use Rattle.interpreter.proofs.access.sd.Goals as goal
-
-pub returns : goal.returns
-unfolding does stored
-returns c = simp (c.in-Here.is, c.keeping.ensures, c.sd.ensures, c.offset.ensures)
