@@ -87,13 +87,6 @@ pub enum Outcome {
     Unknown,
 }
 
-// The eight bytes that an instruction touches, by their address.
-#[derive(Clone, Copy)]
-pub enum Touch {
-    Nothing,
-    Eight(u64),
-}
-
 impl Ins {
     // The same instruction with these eight bytes.
     pub(crate) fn seeing(self, mem: u64) -> Ins
