@@ -140,8 +140,7 @@ fn state_of(m: &[u8]) -> State {
     let mut b = [0u8; 360];
     bytes::copy(m, 0, &mut b);
     bytes::set(&mut b, Place::RULES, 0);
-    let d = layout::decode(&b);
-    let mut s = d.state;
+    let mut s = layout::decode(&b).unwrap_or_default();
     s.rules = bytes::byte(m, Place::RULES);
     s
 }

@@ -1,9 +1,7 @@
 -- What is printed of step records: a line for each record of 752 bytes, and one for a short remainder.
-use Rattle.std.specs.Prelude.{ℕ, zero, suc, ◌+◌, ◌*◌, ◌/◌, ◌%◌, ◌^◌, cond, List, [], ◌∷◌, ◌++◌, length, take, drop, nat_le, nat_lt}
+use Rattle.std.specs.Prelude.{ℕ, zero, suc, ◌+◌, ◌*◌, ◌/◌, ◌%◌, ◌^◌, cond, List, [], ◌∷◌, ◌++◌, length, take, drop, nat_le, nat_lt, Ok, Err}
 use Rattle.std.proofs.lemmas.List.Edits.{sets}
-use Rattle.checker.specs.declared.verdict.Verdict.{Verdict}
-use Rattle.checker.specs.declared.verdict.Verdict.TheVariants.{Accepted, Refused}
-use Rattle.checker.specs.Verdicts.{fault_number}
+use Rattle.checker.specs.Verdicts.{Verdict, fault_number}
 use Rattle.checker.specs.Check.{check_def}
 
 -- ---- a line, in ASCII
@@ -19,8 +17,8 @@ decimal n = decimal_in 20 n
 
 -- `accepted`, or `refused ` and the number
 unfoldable pub said : Verdict → List ℕ
-said Accepted = 97 ∷ 99 ∷ 99 ∷ 101 ∷ 112 ∷ 116 ∷ 101 ∷ 100 ∷ []
-said (Refused f) = 114 ∷ 101 ∷ 102 ∷ 117 ∷ 115 ∷ 101 ∷ 100 ∷ 32 ∷ decimal (fault_number f)
+said (Ok u) = 97 ∷ 99 ∷ 99 ∷ 101 ∷ 112 ∷ 116 ∷ 101 ∷ 100 ∷ []
+said (Err f) = 114 ∷ 101 ∷ 102 ∷ 117 ∷ 115 ∷ 101 ∷ 100 ∷ 32 ∷ decimal (fault_number f)
 
 -- the position, a space, the verdict and a line end
 unfoldable pub line : ℕ → Verdict → List ℕ

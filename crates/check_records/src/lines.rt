@@ -1,12 +1,12 @@
 // The lines that are printed of step records.
 ghost use Rattle.std.specs.Prelude.{◌≡◌, ◌+◌, ◌*◌, ◌<◌, ◌≤◌, length};
-ghost use Rattle.checker.specs.declared.verdict.Verdict.TheVariants.{Refused};
+ghost use Rattle.checker.specs.Verdicts.{Refused};
 ghost use Rattle.checker.specs.Check.{check_def};
 ghost use Rattle.check_records.specs.Lines.{decimal, said, line as line_of, record_at, line_at, after as after_def, printed, printed_def};
 ghost use Rattle.check_records.specs.Parts.{Puts};
 
 use checker::check;
-use checker::verdict::{Fault, Verdict};
+use checker::verdict::Fault;
 use interpreter::record::Record;
 
 // The sizes of what is read and written.
@@ -56,20 +56,20 @@ fn put_refused(f: Fault, out: &mut [u8], at: usize) -> usize
     ensures { Puts out.old at (said (Refused f)) result out.new }
 {
     let next = put(b"refused ", out, at);
-    put_number(f.number() as u64, out, next)
+    put_number(u8::from(f) as u64, out, next)
 }
 
-fn put_verdict(v: Verdict, out: &mut [u8], at: usize) -> usize
+fn put_verdict(v: Result<(), Fault>, out: &mut [u8], at: usize) -> usize
     requires { at + length (said v) ≤ length out.old }
     ensures { Puts out.old at (said v) result out.new }
 {
     match v {
-        Verdict::Accepted => put(b"accepted", out, at),
-        Verdict::Refused(f) => put_refused(f, out, at),
+        Ok(()) => put(b"accepted", out, at),
+        Err(f) => put_refused(f, out, at),
     }
 }
 
-fn put_line(position: u64, v: Verdict, out: &mut [u8], at: usize) -> usize
+fn put_line(position: u64, v: Result<(), Fault>, out: &mut [u8], at: usize) -> usize
     requires { at + length (line_of position v) ≤ length out.old }
     ensures { Puts out.old at (line_of position v) result out.new }
 {
@@ -80,7 +80,7 @@ fn put_line(position: u64, v: Verdict, out: &mut [u8], at: usize) -> usize
 }
 
 // What the checker says of record k: a short remainder is judged as it is.
-fn judge(records: &[u8], k: usize) -> Verdict
+fn judge(records: &[u8], k: usize) -> Result<(), Fault>
     requires { 752 * k < length records.now }
     ensures { result ≡ check_def (record_at k records.now) }
 {

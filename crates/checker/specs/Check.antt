@@ -1,11 +1,9 @@
 -- The checker (document 01, "The step record"): its refusals 21 to 27, each with its condition.
-use Rattle.std.specs.Prelude.{ℕ, ◌+◌, ◌*◌, ◌/◌, ◌%◌, Bool, true, false, ◌&&◌, not, cond, List, [], ◌∷◌, eqb, length, Ok, Err}
+use Rattle.std.specs.Prelude.{ℕ, ◌+◌, ◌*◌, ◌/◌, ◌%◌, Bool, true, false, ◌&&◌, not, cond, List, [], ◌∷◌, eqb, length, Ok, Err, Option, Some, None}
 use Rattle.std.specs.Bool.{beq}
 use Rattle.pages.specs.Bytes.{cell, big}
 use Rattle.interpreter.specs.Effects.{Effect}
 use Rattle.interpreter.specs.declared.effect.Stop.TheVariants.{Refused as RefusedBy, Call as CallBy}
-use Rattle.interpreter.specs.declared.effect.Touch.{Touch}
-use Rattle.interpreter.specs.declared.effect.Touch.TheVariants.{Nothing, Eight}
 use Rattle.interpreter.specs.declared.state.Cpu.{Cpu}
 use Rattle.interpreter.specs.declared.state.State.{State}
 use Rattle.interpreter.specs.Machine.{reg, cpu_of, state_of}
@@ -16,8 +14,8 @@ use Rattle.interpreter.specs.Recording.{wide}
 use Rattle.interpreter.specs.Ideal.{remember}
 use Rattle.checker.specs.declared.verdict.Fault.{Fault}
 use Rattle.checker.specs.declared.verdict.Fault.TheVariants.{Length, Form, AlreadyExited, StepRefused, WideStep, Touch as TouchFault, Result}
-use Rattle.checker.specs.declared.verdict.Verdict.{Verdict}
-use Rattle.checker.specs.declared.verdict.Verdict.TheVariants.{Accepted, Refused}
+use Rattle.checker.specs.Verdicts.{Verdict}
+use Rattle.checker.specs.Verdicts.{Accepted, Refused}
 use Rattle.checker.specs.Records.{old_in, new_in, word_in, address_in, old_eight, new_eight, touch_in, memory_in, effect_in, plan_in}
 
 -- 21: length
@@ -46,14 +44,14 @@ unfoldable pub wide_in : List ℕ → Bool
 wide_in r = wide (cpu_of (old_in r)) (old_in r).regs (word_in r)
 
 -- 26: address wrong, touch fields not zero without a touch,
-abbrev pub placed : List ℕ → Touch → Bool
-placed r Nothing = eqb (address_in r) 0 && eqb (old_eight r) 0 && eqb (new_eight r) 0
-placed r (Eight a) = eqb (address_in r) a
+abbrev pub placed : List ℕ → Option ℕ → Bool
+placed r None = eqb (address_in r) 0 && eqb (old_eight r) 0 && eqb (new_eight r) 0
+placed r (Some a) = eqb (address_in r) a
 
 -- or an instruction that disagrees with the old bytes holding it: pc is in the touched doubleword, and the four bytes there are others
-abbrev pub agrees : List ℕ → ℕ → Touch → Bool
-agrees r pc Nothing = true
-agrees r pc (Eight a) = cond (eqb (pc / 8 * 8) a) (eqb (big 4 (cell r) (736 + pc % 8)) (word_in r)) true
+abbrev pub agrees : List ℕ → ℕ → Option ℕ → Bool
+agrees r pc None = true
+agrees r pc (Some a) = cond (eqb (pc / 8 * 8) a) (eqb (big 4 (cell r) (736 + pc % 8)) (word_in r)) true
 
 unfoldable pub misplaced : List ℕ → Bool
 misplaced r = not (placed r (touch_in r) && agrees r (old_in r).pc (touch_in r))

@@ -11,7 +11,7 @@ use Rattle.interpreter.specs.declared.step.Answer.{Answer}
 use Rattle.interpreter.specs.declared.step.Answer.TheVariants.{Stepped, Wrote, Hint, Exited, Refused}
 use Rattle.interpreter.specs.Machine.{reg}
 use Rattle.interpreter.specs.Ideal.{Ideal, ideal, Outcome, ideal_step}
-use Rattle.checker.specs.declared.verdict.Verdict.TheVariants.{Accepted}
+use Rattle.checker.specs.Verdicts.{Accepted}
 use Rattle.checker.specs.Check.{check_def}
 
 -- ---- rows

@@ -1,9 +1,8 @@
 -- What a record shows (document 01, "The step record"): old state 0, new state 360, instruction 720, address 728, old eight 736, new eight 744.
-use Rattle.std.specs.Prelude.{ℕ, List}
+use Rattle.std.specs.Prelude.{ℕ, List, Option}
 use Rattle.pages.specs.Bytes.{cell, big}
 use Rattle.pages.specs.Memory.{Memory}
 use Rattle.interpreter.specs.Effects.{Effect}
-use Rattle.interpreter.specs.declared.effect.Touch.{Touch}
 use Rattle.interpreter.specs.declared.state.State.{State}
 use Rattle.interpreter.specs.Machine.{cpu_of}
 use Rattle.interpreter.specs.Plan.{Plan}
@@ -30,7 +29,7 @@ unfoldable pub new_eight : List ℕ → ℕ
 new_eight r = eight r 744
 
 -- what the instruction touches, by the old state
-unfoldable pub touch_in : List ℕ → Touch
+unfoldable pub touch_in : List ℕ → Option ℕ
 touch_in r = touched (cpu_of (old_in r)) (old_in r).regs (word_in r)
 
 -- all that the record shows of the memory

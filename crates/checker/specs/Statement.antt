@@ -1,10 +1,8 @@
 -- What is proved of the checker (demand 3). The proof is `theorems` in proofs/Laws/Proved.antt.
-use Rattle.std.specs.Prelude.{ℕ, ◌<◌, ◌≡◌, ◌↔◌, true, false, List, length}
+use Rattle.std.specs.Prelude.{ℕ, ◌<◌, ◌≡◌, ◌↔◌, true, false, List, length, Option, Some, None}
 use Rattle.pages.specs.Bytes.{cell, big}
 use Rattle.pages.specs.Memory.{Memory}
 use Rattle.interpreter.specs.declared.effect.Refusal.{Refusal}
-use Rattle.interpreter.specs.declared.effect.Touch.{Touch}
-use Rattle.interpreter.specs.declared.effect.Touch.TheVariants.{Nothing, Eight}
 use Rattle.interpreter.specs.declared.step.Answer.TheVariants.{Refused as RefusedStep}
 use Rattle.interpreter.specs.Machine.{Machine, cpu_of, state_of}
 use Rattle.interpreter.specs.Layout.{Typed}
@@ -13,7 +11,7 @@ use Rattle.interpreter.specs.Recording.{wide, word_in as word_at, state_in, reco
 use Rattle.interpreter.specs.Ideal.{ideal, Outcome, ideal_step}
 use Rattle.interpreter.specs.Shown.{Outside}
 use Rattle.checker.specs.declared.verdict.Fault.{Fault}
-use Rattle.checker.specs.declared.verdict.Verdict.TheVariants.{Accepted, Refused}
+use Rattle.checker.specs.Verdicts.{Accepted, Refused}
 use Rattle.checker.specs.Verdicts.{fault_number}
 use Rattle.checker.specs.Records.{old_in, new_in, word_in, old_eight, new_eight, touch_in}
 use Rattle.checker.specs.Check.{wrong_length, malformed, exited_in, wide_in, placed, applies, check_def}
@@ -32,9 +30,9 @@ pub record Form (r : List ℕ) : Type 0 where
   pub touch : placed r (touch_in r) ≡ true
 
 -- a memory has this number in the touched eight bytes
-abbrev pub Has : Memory → Touch → ℕ → Type 0
-Has m Nothing v = Unit {0}
-Has m (Eight a) v = big 8 m a ≡ v
+abbrev pub Has : Memory → Option ℕ → ℕ → Type 0
+Has m None v = Unit {0}
+Has m (Some a) v = big 8 m a ≡ v
 
 -- a memory that holds the instruction at pc and the old eight bytes at the address
 pub record Holds (r : List ℕ) (m : Memory) : Type 0 where

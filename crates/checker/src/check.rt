@@ -4,23 +4,20 @@ ghost use Rattle.checker.specs.Records.{old_in, new_in, word_in};
 ghost use Rattle.checker.specs.Check.{placed, agrees, check_def};
 ghost use Rattle.checker.specs.Parts.{step_judged, result_judged};
 
-use crate::same;
-use crate::verdict::{Fault, Verdict};
-use interpreter::effect::Touch;
+use crate::verdict::Fault;
 use interpreter::record::Record;
-use interpreter::shown::Made;
-use interpreter::state::{Cpu, State};
+use interpreter::state::State;
 use interpreter::{layout, shown};
 use pages::bytes;
 
 // The address is the touched one; without a touch the last 24 bytes are zero.
-fn placed(record: &[u8], t: Touch) -> bool
+fn placed(record: &[u8], t: Option<u64>) -> bool
     requires { length «record».now ≡ 752 }
     ensures { result ≡ placed «record».now t }
 {
     let address = bytes::doubleword_at(record, Record::ADDRESS);
     match t {
-        Touch::Nothing => {
+        None => {
             if address != 0 {
                 return false;
             }
@@ -29,18 +26,18 @@ fn placed(record: &[u8], t: Touch) -> bool
             }
             bytes::doubleword_at(record, Record::NEW_EIGHT) == 0
         }
-        Touch::Eight(a) => address == a,
+        Some(a) => address == a,
     }
 }
 
 // Where pc lies in the touched doubleword, the old bytes hold the instruction.
-fn agrees(record: &[u8], pc: u64, word: u64, t: Touch) -> bool
+fn agrees(record: &[u8], pc: u64, word: u64, t: Option<u64>) -> bool
     requires { (length «record».now ≡ 752) × (word ≡ word_in «record».now) }
     ensures { result ≡ agrees «record».now pc t }
 {
     match t {
-        Touch::Nothing => true,
-        Touch::Eight(a) => {
+        None => true,
+        Some(a) => {
             let o = pc % 8;
             if pc - o != a {
                 return true;
@@ -50,74 +47,58 @@ fn agrees(record: &[u8], pc: u64, word: u64, t: Touch) -> bool
     }
 }
 
-// What the step left: the touched eight bytes y, and the state of these numbers, registers and key.
-fn judge_result(
-    record: &[u8],
-    n: State,
-    c: Cpu,
-    regs: &[u64; 32],
-    key: &[u8; 32],
-    y: u64,
-) -> Verdict
+// What the step left: a state, and the touched eight bytes y.
+fn judge_result(record: &[u8], new: State, left: State, y: u64) -> Result<(), Fault>
     requires { length «record».now ≡ 752 }
-    ensures { result ≡ result_judged «record».now n c regs.now key.now y }
+    ensures { result ≡ result_judged «record».now new left y }
 {
-    if !same::same_state(c, regs, key, n) {
-        return Verdict::Refused(Fault::Result);
+    if left != new {
+        return Err(Fault::Result);
     }
     if y != bytes::doubleword_at(record, Record::NEW_EIGHT) {
-        return Verdict::Refused(Fault::Result);
+        return Err(Fault::Result);
     }
-    Verdict::Accepted
+    Ok(())
 }
 
 // 23 to 27: the step made again from the old state.
-fn judge_step(record: &[u8], s: State, n: State) -> Verdict
+fn judge_step(record: &[u8], s: State, n: State) -> Result<(), Fault>
     requires { (length «record».now ≡ 752) × (s ≡ old_in «record».now) × (n ≡ new_in «record».now) }
     ensures { result ≡ step_judged «record».now }
 {
     if s.exited {
-        return Verdict::Refused(Fault::AlreadyExited);
+        return Err(Fault::AlreadyExited);
     }
     let mut regs = s.regs;
     let mut key = s.key;
     let word = bytes::word_at(record, Record::WORD);
     let old = bytes::doubleword_at(record, Record::OLD_EIGHT);
-    let made = shown::step_shown(s.cpu(), &mut regs, &mut key, word, old);
-    match made {
-        Made::Refused(r) => Verdict::Refused(Fault::StepRefused),
-        Made::Wide => Verdict::Refused(Fault::WideStep),
-        Made::Stepped(c, t, y) => {
-            if !placed(record, t) {
-                return Verdict::Refused(Fault::Touch);
-            }
-            if !agrees(record, s.pc, word, t) {
-                return Verdict::Refused(Fault::Touch);
-            }
-            judge_result(record, n, c, &regs, &key, y)
-        }
+    let made = shown::step_shown(s.cpu(), &mut regs, &mut key, word, old)?;
+    if !placed(record, made.touch) {
+        return Err(Fault::Touch);
     }
+    if !agrees(record, s.pc, word, made.touch) {
+        return Err(Fault::Touch);
+    }
+    let left = made.cpu.with(regs, key);
+    judge_result(record, n, left, made.eight)
 }
 
-// The checker.
-pub fn check(record: &[u8]) -> Verdict
+/// The checker: refusals 21 to 27, and the first that applies.
+pub fn check(record: &[u8]) -> Result<(), Fault>
     ensures { result ≡ check_def «record».now }
 {
     if record.len() != Record::SIZE {
-        return Verdict::Refused(Fault::Length);
+        return Err(Fault::Length);
     }
-    let old = layout::decode_at(record, Record::OLD_STATE);
-    if !old.formed {
-        return Verdict::Refused(Fault::Form);
-    }
-    let new = layout::decode_at(record, Record::NEW_STATE);
-    if !new.formed {
-        return Verdict::Refused(Fault::Form);
-    }
+    let Some(old) = layout::decode_at(record, Record::OLD_STATE) else {
+        return Err(Fault::Form);
+    };
+    let Some(new) = layout::decode_at(record, Record::NEW_STATE) else {
+        return Err(Fault::Form);
+    };
     if bytes::word_at(record, Record::SPARE) != 0 {
-        return Verdict::Refused(Fault::Form);
+        return Err(Fault::Form);
     }
-    let s = old.state;
-    let n = new.state;
-    judge_step(record, s, n)
+    judge_step(record, old, new)
 }

@@ -6,4 +6,3 @@ pub mod verdict;
 
 // One record judged.
 pub mod check;
-mod same;

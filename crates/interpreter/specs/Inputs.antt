@@ -1,9 +1,8 @@
 -- The input (document 01, "What the machine holds"): an index of 48-byte records (key 32, start 8, length 8), and the data.
-use Rattle.std.specs.Prelude.{ℕ, zero, suc, ◌+◌, ◌-◌, ◌*◌, ◌/◌, ◌%◌, min, Bool, true, cond, ◌&&◌, List, [], ◌++◌, length, ◌==◌, nat_le}
+use Rattle.std.specs.Prelude.{ℕ, zero, suc, ◌+◌, ◌-◌, ◌*◌, ◌/◌, ◌%◌, min, Bool, true, cond, ◌&&◌, List, [], ◌++◌, length, ◌==◌, nat_le, Option, Some, None}
 use Rattle.std.proofs.lemmas.List.Edits.{sets}
 use Rattle.pages.specs.Bytes.{cell, row, big, bytes_of}
 use Rattle.interpreter.specs.declared.input.Entry.{Entry}
-use Rattle.interpreter.specs.declared.input.Entry.TheVariants.{At, Absent}
 
 -- whether the n bytes from a on in the one are those from b on in the other
 unfoldable pub same : ℕ → (ℕ → ℕ) → ℕ → (ℕ → ℕ) → ℕ → Bool
@@ -16,15 +15,15 @@ has_key x key i = same 32 (cell x) (i * 48) (cell key) 0
 
 -- the start and length in record i
 abbrev pub entry_at : List ℕ → ℕ → Entry
-entry_at x i = At (big 8 (cell x) (i * 48 + 32)) (big 8 (cell x) (i * 48 + 40))
+entry_at x i = record { start = big 8 (cell x) (i * 48 + 32); length = big 8 (cell x) (i * 48 + 40) }
 
 -- the first of the n records from record i on that has the key
-unfoldable pub first_entry : List ℕ → List ℕ → ℕ → ℕ → Entry
-first_entry x key zero i = Absent
-first_entry x key (suc n) i = cond (has_key x key i) (entry_at x i) (first_entry x key n (suc i))
+unfoldable pub first_entry : List ℕ → List ℕ → ℕ → ℕ → Option Entry
+first_entry x key zero i = None
+first_entry x key (suc n) i = cond (has_key x key i) (Some (entry_at x i)) (first_entry x key n (suc i))
 
 -- the first whole record with the key decides
-unfoldable pub entry_of : List ℕ → List ℕ → Entry
+unfoldable pub entry_of : List ℕ → List ℕ → Option Entry
 entry_of x key = first_entry x key (length x / 48) 0
 
 -- whether n bytes from start on lie in the data; the sum is not wrapped

@@ -1,5 +1,5 @@
 -- The kernel: what each instruction does, and which eight bytes it touches.
-use Rattle.std.specs.Prelude.{ℕ, ◌+◌, ◌*◌, ◌/◌, ◌%◌, ◌^◌, Bool, cond, not, ◌||◌, ◌==◌, Result, Ok, Err}
+use Rattle.std.specs.Prelude.{ℕ, ◌+◌, ◌*◌, ◌/◌, ◌%◌, ◌^◌, Bool, cond, not, ◌||◌, ◌==◌, Result, Ok, Err, Option, Some, None}
 use Rattle.interpreter.specs.Words.{plus, negative, sext}
 use Rattle.interpreter.specs.Isa.{rd_of, imm_of, target_of, Branch, BEQ, BNE, BLEZ, BGTZ, BLTZ, BGEZ, BGEZAL, Jump, J, JAL, JR, JALR, Instruction, alu, imm, hilo, load, store, conditional, branch, jump, Other, MOVZ, MOVN, SYNC, SYSCALL, other, reserved, reserved_branch}
 use Rattle.interpreter.specs.OpcodeMap.{decode}
@@ -13,8 +13,6 @@ use Rattle.interpreter.specs.declared.effect.Change.{Change}
 use Rattle.interpreter.specs.declared.effect.Stop.TheVariants.{Refused, Call}
 use Rattle.interpreter.specs.declared.effect.Refusal.{Refusal}
 use Rattle.interpreter.specs.declared.effect.Refusal.TheVariants.{PcMisaligned, Reserved, DelaySlot}
-use Rattle.interpreter.specs.declared.effect.Touch.{Touch}
-use Rattle.interpreter.specs.declared.effect.Touch.TheVariants.{Nothing, Eight}
 
 -- ---- branches and jumps
 
@@ -92,18 +90,18 @@ kernel_def i = cond (i.pc % 4 == 0) (does (decode i.word) i) (Err (Refused PcMis
 
 -- ---- the touched eight bytes: loads and stores alone, SC and SCD also when they store nothing
 
-unfoldable pub touching : Instruction → ℕ → Touch
-touching (alu a) a8 = Nothing
-touching (imm a) a8 = Nothing
-touching (hilo h) a8 = Nothing
-touching (load l) a8 = Eight a8
-touching (store s) a8 = Eight a8
-touching (conditional c) a8 = Eight a8
-touching (branch b) a8 = Nothing
-touching (jump j) a8 = Nothing
-touching (other o) a8 = Nothing
-touching reserved a8 = Nothing
-touching reserved_branch a8 = Nothing
+unfoldable pub touching : Instruction → ℕ → Option ℕ
+touching (alu a) a8 = None
+touching (imm a) a8 = None
+touching (hilo h) a8 = None
+touching (load l) a8 = Some a8
+touching (store s) a8 = Some a8
+touching (conditional c) a8 = Some a8
+touching (branch b) a8 = None
+touching (jump j) a8 = None
+touching (other o) a8 = None
+touching reserved a8 = None
+touching reserved_branch a8 = None
 
-unfoldable pub touch_def : ℕ → ℕ → Touch
+unfoldable pub touch_def : ℕ → ℕ → Option ℕ
 touch_def w base = touching (decode w) (address_of w base / 8 * 8)

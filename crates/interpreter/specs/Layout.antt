@@ -1,10 +1,9 @@
 -- A state's 360 bytes (document 01, "The step record"), big-endian.
-use Rattle.std.specs.Prelude.{◌≡◌, ℕ, zero, suc, ◌+◌, ◌*◌, ◌^◌, ◌<◌, ◌≤◌, Bool, true, false, cond, not, ◌&&◌, List, [], ◌∷◌, ◌++◌, length, ◌==◌, nat_le}
+use Rattle.std.specs.Prelude.{◌≡◌, ℕ, zero, suc, ◌+◌, ◌*◌, ◌^◌, ◌<◌, ◌≤◌, Bool, cond, not, ◌&&◌, List, [], ◌∷◌, ◌++◌, length, ◌==◌, nat_le, Option, Some, None}
 use Rattle.pages.specs.Bytes.{cell, row, zeros, big, bytes_of}
 use Rattle.interpreter.specs.Machine.{reg, cpu_of, largest_rules, hint_room, formless}
 use Rattle.interpreter.specs.declared.state.State.{State}
 use Rattle.interpreter.specs.declared.state.Cpu.{Cpu}
-use Rattle.interpreter.specs.declared.layout.Decoded.{Decoded}
 
 -- ---- from a state to its bytes
 
@@ -59,22 +58,12 @@ decode_at b k = record {
 unfoldable pub formed_at : List ℕ → ℕ → Bool
 formed_at b k = nat_le (cell b (k + 352)) 1 && big 5 (cell b) (k + 355) == 0 && not (formless hint_room (cpu_of (decode_at b k)))
 
-abbrev pub valid : State → Decoded
-valid s = record { formed = true; state = s }
+-- the state that the 360 bytes from byte k on are; none where there are fewer bytes, or they are no state's
+unfoldable pub decoded_at : List ℕ → ℕ → Option State
+decoded_at b k = cond (nat_le (k + 360) (length b) && formed_at b k) (Some (decode_at b k)) None
 
--- the state of zeros
-abbrev pub blank : State
-blank = record { regs = zeros 32; pc = 0; next = 0; hi = 0; lo = 0; heap = 0; step = 0; offset = 0; hint = 0; key = zeros 32; exited = false; code = 0; rules = 0 }
-
-unfoldable pub malformed : Decoded
-malformed = record { formed = false; state = blank }
-
--- what the 360 bytes from byte k on say
-unfoldable pub decoded_at : List ℕ → ℕ → Decoded
-decoded_at b k = cond (nat_le (k + 360) (length b) && formed_at b k) (valid (decode_at b k)) malformed
-
-unfoldable pub decode_def : List ℕ → Decoded
-decode_def b = cond (length b == 360 && formed_at b 0) (valid (decode_at b 0)) malformed
+unfoldable pub decode_def : List ℕ → Option State
+decode_def b = cond (length b == 360 && formed_at b 0) (Some (decode_at b 0)) None
 
 -- ---- the states that 360 bytes can say
 

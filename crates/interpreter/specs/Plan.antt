@@ -1,6 +1,6 @@
 -- What one step does (document 01, "One step", "System calls, both rules"), as a function of what it may look at.
 -- Our machine and the definition's machine have this plan in common: they part only in the room they have.
-use Rattle.std.specs.Prelude.{ℕ, ◌+◌, ◌*◌, ◌/◌, ◌%◌, Bool, cond, List, [], ◌++◌, length, nat_lt, Ok, Err, Option, Some, None}
+use Rattle.std.specs.Prelude.{ℕ, ◌+◌, ◌*◌, ◌/◌, ◌%◌, Bool, cond, List, [], ◌++◌, length, nat_lt, Ok, Err, Option, Some, None, Result}
 use Rattle.pages.specs.Bytes.{cell, row, big, bytes_of}
 use Rattle.pages.specs.Memory.{Memory, span}
 use Rattle.interpreter.specs.Words.{word, plus}
@@ -10,8 +10,6 @@ use Rattle.interpreter.specs.declared.effect.Ins.{Ins}
 use Rattle.interpreter.specs.declared.effect.Change.{Change}
 use Rattle.interpreter.specs.Effects.{Effect}
 use Rattle.interpreter.specs.declared.effect.Stop.TheVariants.{Refused as RefusedBy, Call as CallBy}
-use Rattle.interpreter.specs.declared.effect.Touch.{Touch}
-use Rattle.interpreter.specs.declared.effect.Touch.TheVariants.{Nothing, Eight}
 use Rattle.interpreter.specs.declared.effect.Refusal.{Refusal}
 use Rattle.interpreter.specs.declared.effect.Refusal.TheVariants.{NoRoom, NoInput, InputOffset}
 use Rattle.interpreter.specs.declared.state.Cpu.{Cpu}
@@ -19,10 +17,7 @@ use Rattle.interpreter.specs.declared.step.Answer.{Answer}
 use Rattle.interpreter.specs.declared.step.Answer.TheVariants.{Stepped, Wrote, Hint, Exited}
 use Rattle.interpreter.specs.declared.linux.Call.{Call}
 use Rattle.interpreter.specs.declared.linux.Call.TheVariants.{Answer as Reply, Heap, Exit, Key, Input, Write, Hint as HintWrite}
-use Rattle.interpreter.specs.declared.hint.Heard.{Heard}
-use Rattle.interpreter.specs.declared.hint.Heard.TheVariants.{Keep, HandOut, Refuse}
 use Rattle.interpreter.specs.declared.input.Entry.{Entry}
-use Rattle.interpreter.specs.declared.input.Entry.TheVariants.{At, Absent}
 use Rattle.interpreter.specs.Machine.{reg, set_reg, answering, changed, onward, leaving}
 use Rattle.interpreter.specs.Calls.{call_of}
 use Rattle.interpreter.specs.Inputs.{entry_of, inside, part_of, moving, moved, merged, shifting, shifted}
@@ -63,20 +58,20 @@ pub data Plan : Type 0 where
 -- ---- an instruction that is no system call
 
 -- the eight bytes that it reads; 0 where it touches none
-abbrev pub eight_at : Memory → Touch → ℕ
-eight_at m Nothing = 0
-eight_at m (Eight a) = big 8 m a
+abbrev pub eight_at : Memory → Option ℕ → ℕ
+eight_at m None = 0
+eight_at m (Some a) = big 8 m a
 
 -- what is stored there, where the eight bytes afterwards are stored
-abbrev pub store_of : Touch → Option ℕ → Store
-store_of Nothing m = keeps
-store_of (Eight a) (Some m) = stores a m
-store_of (Eight a) None = keeps
+abbrev pub store_of : Option ℕ → Option ℕ → Store
+store_of None m = keeps
+store_of (Some a) (Some m) = stores a m
+store_of (Some a) None = keeps
 
-abbrev pub storing : Touch → Change → Store
+abbrev pub storing : Option ℕ → Change → Store
 storing t e = store_of t e.store
 
-unfoldable pub changing : View → Touch → Change → Deed
+unfoldable pub changing : View → Option ℕ → Change → Deed
 changing v t e = record { answer = Stepped; cpu = changed v.cpu e; regs = set_reg v.regs e.dest e.value; key = v.key; store = storing t e; appended = []; written = [] }
 
 -- ---- system calls: arguments
@@ -123,10 +118,10 @@ writing v s = cond (v.fits (a2 v)) (does (wrote v s)) (refuse NoRoom)
 unfoldable pub hinted : View → Answer → ℕ → List ℕ → Deed
 hinted v r n text = record { answer = r; cpu = onward v.cpu v.cpu.heap v.cpu.offset n; regs = answering v.regs (a2 v) 0; key = v.key; store = keeps; appended = span v.memory (a1 v) (a2 v); written = text }
 
-abbrev pub hearing : View → List ℕ → Heard → Plan
-hearing v t (Refuse n) = refuse n
-hearing v t Keep = does (hinted v Stepped (length t) [])
-hearing v t (HandOut n) = does (hinted v (Hint n) 0 (text_of t))
+abbrev pub hearing : View → List ℕ → Result (Option ℕ) Refusal → Plan
+hearing v t (Err n) = refuse n
+hearing v t (Ok None) = does (hinted v Stepped (length t) [])
+hearing v t (Ok (Some n)) = does (hinted v (Hint n) 0 (text_of t))
 
 -- the bytes held once those from a1 on are appended
 abbrev pub together : View → List ℕ
@@ -147,9 +142,9 @@ read_from v d = read v d (moving (length d) v.cpu.offset (a1 v) (a2 v))
 unfoldable pub reading_in : View → List ℕ → Plan
 reading_in v d = cond (nat_lt (8 + length d) v.cpu.offset) (refuse InputOffset) (does (read_from v d))
 
-abbrev pub reading_at : View → Entry → Plan
-reading_at v Absent = refuse NoInput
-reading_at v (At start n) = cond (inside v.input start n) (reading_in v (part_of v.input start n)) (refuse NoInput)
+abbrev pub reading_at : View → Option Entry → Plan
+reading_at v None = refuse NoInput
+reading_at v (Some e) = cond (inside v.input e.start e.length) (reading_in v (part_of v.input e.start e.length)) (refuse NoInput)
 
 unfoldable pub reading : View → Plan
 reading v = reading_at v (entry_of v.index v.key)
@@ -170,15 +165,15 @@ unfoldable pub ins_of : Cpu → List ℕ → ℕ → ℕ → Ins
 ins_of c r w x = record { rules = c.rules; word = w; rs = reg r (rs_of w); rt = reg r (rt_of w); pc = c.pc; next = c.next; hi = c.hi; lo = c.lo; mem = x }
 
 -- the eight bytes that the instruction w touches
-unfoldable pub touch_of : List ℕ → ℕ → Touch
+unfoldable pub touch_of : List ℕ → ℕ → Option ℕ
 touch_of r w = touch_def w (reg r (rs_of w))
 
-unfoldable pub planned : View → Touch → Effect → Plan
+unfoldable pub planned : View → Option ℕ → Effect → Plan
 planned v t (Err (RefusedBy n)) = refuse n
 planned v t (Err CallBy) = calling v (call_in v.cpu v.regs)
 planned v t (Ok e) = does (changing v t e)
 
-unfoldable pub executing : View → ℕ → Touch → Plan
+unfoldable pub executing : View → ℕ → Option ℕ → Plan
 executing v w t = planned v t (kernel_def (ins_of v.cpu v.regs w (eight_at v.memory t)))
 
 -- the word at pc

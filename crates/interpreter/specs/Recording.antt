@@ -1,12 +1,10 @@
 -- Recording (document 01, "The step record"): what a step touches, which steps are wide, and what the record buffer holds afterwards.
-use Rattle.std.specs.Prelude.{ℕ, ◌*◌, ◌/◌, Bool, true, false, cond, not, ◌&&◌, List, length, ◌==◌}
+use Rattle.std.specs.Prelude.{ℕ, ◌*◌, ◌/◌, Bool, true, false, cond, not, ◌&&◌, List, length, ◌==◌, Option, Some, None}
 use Rattle.pages.specs.Bytes.{big}
 use Rattle.pages.specs.Memory.{Memory}
 use Rattle.pages.specs.Pages.{byte_at}
 use Rattle.interpreter.specs.Isa.{Other, MOVZ, MOVN, SYNC, SYSCALL, Instruction, alu, imm, hilo, load, store, conditional, branch, jump, other, reserved, reserved_branch}
 use Rattle.interpreter.specs.OpcodeMap.{decode}
-use Rattle.interpreter.specs.declared.effect.Touch.{Touch}
-use Rattle.interpreter.specs.declared.effect.Touch.TheVariants.{Nothing, Eight}
 use Rattle.interpreter.specs.declared.effect.Refusal.TheVariants.{BadMachine}
 use Rattle.interpreter.specs.declared.state.Cpu.{Cpu}
 use Rattle.interpreter.specs.declared.state.State.{State}
@@ -53,17 +51,17 @@ unfoldable pub wide : Cpu → List ℕ → ℕ → Bool
 wide c r w = calls (decode w) && call_wide (call_in c r)
 
 -- of the calls only a write to 6 touches eight bytes: those that a1 lies in
-abbrev pub call_touch : ℕ → Call → Touch
-call_touch a1 (Reply v e) = Nothing
-call_touch a1 (Heap h) = Nothing
-call_touch a1 (Exit n) = Nothing
-call_touch a1 Key = Eight (a1 / 8 * 8)
-call_touch a1 Input = Nothing
-call_touch a1 (Write s) = Nothing
-call_touch a1 Hint = Nothing
+abbrev pub call_touch : ℕ → Call → Option ℕ
+call_touch a1 (Reply v e) = None
+call_touch a1 (Heap h) = None
+call_touch a1 (Exit n) = None
+call_touch a1 Key = Some (a1 / 8 * 8)
+call_touch a1 Input = None
+call_touch a1 (Write s) = None
+call_touch a1 Hint = None
 
 -- the eight bytes that a step touches: loads, stores, and writes to 6
-unfoldable pub touched : Cpu → List ℕ → ℕ → Touch
+unfoldable pub touched : Cpu → List ℕ → ℕ → Option ℕ
 touched c r w = cond (calls (decode w)) (call_touch (reg r 5) (call_in c r)) (touch_of r w)
 
 -- ---- the record of a step from one machine to another
@@ -78,7 +76,7 @@ state_in m = state_of m.cpu m.regs m.key
 abbrev pub word_in : Machine → ℕ
 word_in m = big 4 (memory_of m) m.cpu.pc
 
-abbrev pub touch_in : Machine → Touch
+abbrev pub touch_in : Machine → Option ℕ
 touch_in m = touched m.cpu m.regs (word_in m)
 
 -- old state, new state, instruction, and the touched eight bytes before and after

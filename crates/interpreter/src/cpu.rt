@@ -5,7 +5,7 @@ ghost use Rattle.interpreter.specs.OpcodeMap.{find, found, hilos, registers, spe
 ghost use Rattle.interpreter.specs.Effects.{to_rd, to_register};
 ghost use Rattle.interpreter.specs.Kernel.{does, kernel_def, touch_def};
 
-use crate::effect::{Change, Effect, Ins, Refusal, Stop, Touch};
+use crate::effect::{Change, Effect, Ins, Refusal, Stop};
 use crate::hi_lo::Pair;
 use crate::isa::{IType, Opcode, RType, RegImmFunction, SpecialFunction};
 use crate::{access, alu, bits, branches, hi_lo};
@@ -226,14 +226,14 @@ fn accesses(op: u64) -> bool
 
 // The eight bytes that an instruction touches, whose base register holds base.
 #[tactic(auto, using(crate::proofs::Laws::Touches::touches_by), unfolding(crate::specs::Kernel::touch_def))]
-pub fn touch(word: u64, base: u64) -> Touch
+pub fn touch(word: u64, base: u64) -> Option<u64>
     ensures { result ≡ touch_def word base }
 {
     if accesses(Opcode::decode(word)) {
         let address = bits::plus(base, bits::sext::<16>(IType::decode(word).imm));
-        return Touch::Eight(address / 8 * 8);
+        return Some(address / 8 * 8);
     }
-    Touch::Nothing
+    None
 }
 
 // What an instruction does. A misaligned pc comes before everything else.

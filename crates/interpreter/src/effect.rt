@@ -128,13 +128,6 @@ impl From<Refusal> for Stop {
 /// What an instruction does.
 pub type Effect = Result<Change, Stop>;
 
-// The eight bytes that an instruction touches, by their address.
-#[derive(Clone, Copy)]
-pub enum Touch {
-    Nothing,
-    Eight(u64),
-}
-
 impl Ins {
     // The same instruction with these eight bytes.
     #[tactic(auto, unfolding(crate::specs::Effects::seeing))]

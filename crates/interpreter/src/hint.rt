@@ -1,5 +1,5 @@
 // Hints: bytes held until one is complete.
-ghost use Rattle.std.specs.Prelude.{◌≡◌, ◌+◌, ◌≤◌, length, nat_le, nat_lt};
+ghost use Rattle.std.specs.Prelude.{◌≡◌, ◌+◌, ◌≤◌, length, nat_le, nat_lt, Ok};
 ghost use Rattle.std.proofs.lemmas.List.Edits.{sets};
 ghost use Rattle.pages.specs.Memory.{span};
 ghost use Rattle.pages.specs.Pages.{byte_at};
@@ -11,35 +11,23 @@ use crate::effect::Refusal;
 use crate::utf8;
 use pages::{bytes, reader};
 
-// What is done with the bytes held.
-#[derive(Clone, Copy)]
-pub enum Heard {
-    Keep,
-    // The hint has so many bytes, without its length.
-    HandOut(u64),
-    Refuse(Refusal),
-}
+// The most bytes of a long text.
+const LONG: usize = 65536;
 
-impl Heard {
-    // The most bytes that are held.
-    pub const ROOM: u64 = 65536;
+// The most bytes of a short one.
+const SHORT: usize = 256;
 
-    // A hint's length stands before it.
-    pub const LENGTH: usize = 4;
+// A hint's length stands before it.
+const LENGTH: usize = 4;
 
-    // The most bytes of a short text.
-    const SHORT: usize = 256;
-}
+/// The most bytes that are held.
+pub const ROOM: u64 = LONG as u64;
 
 // Hint room: the buffer's length, at most 65,536.
 pub(crate) fn room_of(hint: &[u8]) -> u64
     ensures { result ≡ room_of hint.now }
 {
-    let length = hint.len() as u64;
-    if length < Heard::ROOM {
-        return length;
-    }
-    Heard::ROOM
+    ROOM.min(hint.len() as u64)
 }
 
 // Whether count bytes more than the held ones find no room in the buffer.
@@ -50,28 +38,28 @@ fn overflows(hint: &[u8], held: u64, count: u64) -> bool
     room_of(hint) - held < count
 }
 
-// What is done with a text, where so many bytes of output have room.
-fn judge(text: &[u8], room: usize) -> Heard
+// What is done with a text, where so many bytes of output have room: it is kept, or a hint of so many bytes is handed out.
+fn judge(text: &[u8], room: usize) -> Result<Option<u64>, Refusal>
     ensures { result ≡ heard text.now (λ n. nat_le n room) }
 {
-    if text.len() < Heard::LENGTH {
-        return Heard::Keep;
+    if text.len() < LENGTH {
+        return Ok(None);
     }
     let n = bytes::word_at(text, 0);
-    let rest = (text.len() - Heard::LENGTH) as u64;
+    let rest = (text.len() - LENGTH) as u64;
     if rest < n {
-        return Heard::Refuse(Refusal::HintShort);
+        return Err(Refusal::HintShort);
     }
     if n < rest {
-        return Heard::Keep;
+        return Ok(None);
     }
-    if utf8::valid(&text[Heard::LENGTH..]) {
-        if (room as u64) < n {
-            return Heard::Refuse(Refusal::NoRoom);
-        }
-        return Heard::HandOut(n);
+    if !utf8::valid(&text[LENGTH..]) {
+        return Err(Refusal::HintText);
     }
-    Heard::Refuse(Refusal::HintText)
+    if (room as u64) < n {
+        return Err(Refusal::NoRoom);
+    }
+    Ok(Some(n))
 }
 
 // The same of the held bytes with the appended ones behind them, put together in a text that has room: no buffer is changed yet.
@@ -84,7 +72,7 @@ fn judge_in(
     address: u64,
     count: usize,
     room: usize,
-) -> Heard
+) -> Result<Option<u64>, Refusal>
     requires { (held + count ≤ length text.old) × (held ≤ length hint.now) }
     ensures { result ≡ heard (joined (byte_at pages.now used) hint.now held address count) (λ n. nat_le n room) }
 {
@@ -94,8 +82,8 @@ fn judge_in(
     judge(&text[..end], room)
 }
 
-// The bytes are appended, and a hint that is handed out is copied to the front of the output.
-fn lay(
+// The bytes are appended, and a hint of so many bytes that is handed out is copied to the front of the output.
+fn append(
     pages: &[u8],
     used: usize,
     hint: &mut [u8],
@@ -103,27 +91,20 @@ fn lay(
     address: u64,
     count: usize,
     output: &mut [u8],
-    r: Heard,
-) -> Heard
-    requires { (held + count ≤ length hint.old) × (r ≡ heard (joined (byte_at pages.now used) hint.old held address count) (λ n. nat_le n (length output.old))) }
-    ensures { listened result hint.new output.new ≡ listened_to hint.old (sets hint.old held (span (byte_at pages.now used) address count)) (joined (byte_at pages.now used) hint.old held address count) output.old r }
+    handed: Option<u64>,
+)
+    requires { (held + count ≤ length hint.old) × (Ok handed ≡ heard (joined (byte_at pages.now used) hint.old held address count) (λ n. nat_le n (length output.old))) }
+    ensures { listened (Ok handed) hint.new output.new ≡ listened_to hint.old (sets hint.old held (span (byte_at pages.now used) address count)) (joined (byte_at pages.now used) hint.old held address count) output.old (Ok handed) }
 {
-    match r {
-        Heard::Keep => {
-            reader::copy_out(pages, used, address, hint, held, count);
-            Heard::Keep
-        }
-        Heard::HandOut(n) => {
-            reader::copy_out(pages, used, address, hint, held, count);
-            bytes::copy(hint, Heard::LENGTH, output, 0, n as usize);
-            Heard::HandOut(n)
-        }
-        Heard::Refuse(e) => Heard::Refuse(e),
+    reader::copy_out(pages, used, address, hint, held, count);
+    match handed {
+        None => {}
+        Some(n) => bytes::copy(hint, LENGTH, output, 0, n as usize),
     }
 }
 
-// A write that makes a long text.
-fn listen_long(
+// A write that makes a text of at most N bytes.
+fn listen_in<const N: usize>(
     pages: &[u8],
     used: usize,
     hint: &mut [u8],
@@ -131,36 +112,18 @@ fn listen_long(
     address: u64,
     count: usize,
     output: &mut [u8],
-) -> Heard
-    requires { (held + count ≤ 65536) × (held + count ≤ length hint.old) }
+) -> Result<Option<u64>, Refusal>
+    requires { (N ≤ 65536) × (held + count ≤ N) × (held + count ≤ length hint.old) }
     ensures { listened result hint.new output.new ≡ listened_to hint.old (sets hint.old held (span (byte_at pages.now used) address count)) (joined (byte_at pages.now used) hint.old held address count) output.old (heard (joined (byte_at pages.now used) hint.old held address count) (λ n. nat_le n (length output.old))) }
 {
-    let mut text = [0u8; 65536];
+    let mut text = [0u8; N];
     let room = output.len();
-    let r = judge_in(&mut text, pages, used, hint, held, address, count, room);
-    lay(pages, used, hint, held, address, count, output, r)
+    let handed = judge_in(&mut text, pages, used, hint, held, address, count, room)?;
+    append(pages, used, hint, held, address, count, output, handed);
+    Ok(handed)
 }
 
-// The same of a short one, as most are.
-fn listen_short(
-    pages: &[u8],
-    used: usize,
-    hint: &mut [u8],
-    held: usize,
-    address: u64,
-    count: usize,
-    output: &mut [u8],
-) -> Heard
-    requires { (held + count ≤ 256) × (held + count ≤ length hint.old) }
-    ensures { listened result hint.new output.new ≡ listened_to hint.old (sets hint.old held (span (byte_at pages.now used) address count)) (joined (byte_at pages.now used) hint.old held address count) output.old (heard (joined (byte_at pages.now used) hint.old held address count) (λ n. nat_le n (length output.old))) }
-{
-    let mut text = [0u8; 256];
-    let room = output.len();
-    let r = judge_in(&mut text, pages, used, hint, held, address, count, room);
-    lay(pages, used, hint, held, address, count, output, r)
-}
-
-// A write of count bytes from the address on to the hint descriptor. A refusal changes no byte. `listen_long` stands in two
+// A write of count bytes from the address on to the hint descriptor. A refusal changes no byte. `listen_in::<LONG>` stands in two
 // places, so that the compiler leaves it a function of its own: as a part of the step it would make every system call touch the
 // stack that only a long text needs.
 pub(crate) fn listen(
@@ -171,20 +134,20 @@ pub(crate) fn listen(
     address: u64,
     count: u64,
     output: &mut [u8],
-) -> Heard
+) -> Result<Option<u64>, Refusal>
     requires { held ≤ room_of hint.old }
     ensures { listened result hint.new output.new ≡ listening (byte_at pages.now used) hint.old held address count output.old }
 {
     if overflows(hint, held, count) {
-        return Heard::Refuse(Refusal::NoRoom);
+        return Err(Refusal::NoRoom);
     }
     let kept = held as usize;
     let more = count as usize;
-    if Heard::SHORT < more {
-        return listen_long(pages, used, hint, kept, address, more, output);
+    if SHORT < more {
+        return listen_in::<LONG>(pages, used, hint, kept, address, more, output);
     }
-    if Heard::SHORT < kept + more {
-        return listen_long(pages, used, hint, kept, address, more, output);
+    if SHORT < kept + more {
+        return listen_in::<LONG>(pages, used, hint, kept, address, more, output);
     }
-    listen_short(pages, used, hint, kept, address, more, output)
+    listen_in::<SHORT>(pages, used, hint, kept, address, more, output)
 }

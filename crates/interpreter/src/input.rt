@@ -1,22 +1,23 @@
 // The input: an index of keys, and the data (read_preimage).
-ghost use Rattle.std.specs.Prelude.{◌≡◌, ◌+◌, ◌-◌, ◌/◌, ◌<◌, ◌≤◌, min, ◌++◌, length};
+ghost use Rattle.std.specs.Prelude.{◌≡◌, ◌+◌, ◌-◌, ◌/◌, ◌<◌, ◌≤◌, min, length};
 ghost use Rattle.pages.specs.Bytes.{cell, row, bytes_of};
 ghost use Rattle.interpreter.specs.Inputs.{has_key, entry_of, inside, part_def, moving, content, moved, merged, shifting, shifted};
 
 use pages::bytes;
 
-// What an index has for a key: where the preimage starts in the data and how long it is.
-#[derive(Clone, Copy)]
-pub enum Entry {
-    At(u64, u64),
-    Absent,
+/// What an index has for a key: where the preimage starts in the data, and how long it is.
+#[derive(Clone, Copy, Debug, PartialEq, Eq)]
+pub struct Entry {
+    pub start: u64,
+    pub length: u64,
 }
 
 impl Entry {
+    /// How many bytes a key has.
     pub const KEY: usize = 32;
 
-    // A record of the index: key, start and length.
-    pub const SIZE: usize = 48;
+    /// A record of the index: key, start and length.
+    pub const SIZE: usize = Entry::KEY + 16;
 }
 
 // Whether record i has the key.
@@ -25,36 +26,26 @@ fn has_key(index: &[u8], key: &[u8; 32], i: usize) -> bool
     ensures { result ≡ has_key index.now key.now i }
 {
     let at = i * Entry::SIZE;
-    let mut k = 0;
-    while k < Entry::KEY {
-        if index[at + k] != key[k] {
-            return false;
-        }
-        k += 1;
-    }
-    true
+    &index[at..at + Entry::KEY] == &key[..]
 }
 
-// The first whole record with the key.
-pub fn entry_of(index: &[u8], key: &[u8; 32]) -> Entry
+/// The first whole record with the key.
+pub fn entry_of(index: &[u8], key: &[u8; 32]) -> Option<Entry>
     ensures { result ≡ entry_of index.now key.now }
 {
-    let n = index.len() / Entry::SIZE;
-    let mut i = 0;
-    while i < n {
+    for i in 0..index.len() / Entry::SIZE {
         if has_key(index, key, i) {
             let at = i * Entry::SIZE + Entry::KEY;
-            return Entry::At(
-                bytes::doubleword_at(index, at),
-                bytes::doubleword_at(index, at + 8),
-            );
+            return Some(Entry {
+                start: bytes::doubleword_at(index, at),
+                length: bytes::doubleword_at(index, at + 8),
+            });
         }
-        i += 1;
     }
-    Entry::Absent
+    None
 }
 
-// Whether n bytes from start on lie in the data.
+/// Whether n bytes from start on lie in the data.
 pub fn inside(data: &[u8], start: u64, n: u64) -> bool
     ensures { result ≡ inside «data».now start n }
 {
@@ -65,7 +56,7 @@ pub fn inside(data: &[u8], start: u64, n: u64) -> bool
     n <= length - start
 }
 
-// The preimage as a part of the data, and the empty part where it does not lie inside.
+/// The preimage as a part of the data, and the empty part where it does not lie inside.
 pub fn part_of(data: &[u8], start: u64, n: u64) -> &[u8]
     ensures { result.now ≡ part_def «data».now start n }
 {
@@ -77,15 +68,6 @@ pub fn part_of(data: &[u8], start: u64, n: u64) -> &[u8]
     &data[..0]
 }
 
-fn least(a: u64, b: u64) -> u64
-    ensures { result ≡ min a b }
-{
-    if a < b {
-        return a;
-    }
-    b
-}
-
 // How many bytes are left, at most 32. The preimage's length may be any number.
 fn left(n: u64, offset: u64) -> u64
     requires { offset ≤ 8 + n }
@@ -93,9 +75,9 @@ fn left(n: u64, offset: u64) -> u64
 {
     if offset <= 8 {
         let front = 8 - offset;
-        return front + least(32 - front, n);
+        return front + n.min(32 - front);
     }
-    least(32, n - (offset - 8))
+    (n - (offset - 8)).min(32)
 }
 
 // How many bytes a read moves.
@@ -103,16 +85,7 @@ pub(crate) fn moving(n: u64, offset: u64, a1: u64, a2: u64) -> u64
     requires { offset ≤ 8 + n }
     ensures { result ≡ moving n offset a1 a2 }
 {
-    least(a2, least(8 - a1 % 8, left(n, offset)))
-}
-
-// The eight bytes of a number.
-fn spread(x: u64) -> [u8; 8]
-    ensures { result ≡ bytes_of 8 x }
-{
-    let mut b = [0u8; 8];
-    bytes::put_doubleword(&mut b, 0, x);
-    b
+    a2.min((8 - a1 % 8).min(left(n, offset)))
 }
 
 // One byte of what the program reads: the preimage's length, then the preimage.
@@ -121,7 +94,7 @@ fn content_at(part: &[u8], i: u64) -> u8
     ensures { result ≡ cell (content part.now) i }
 {
     if i < 8 {
-        let size = spread(part.len() as u64);
+        let size = (part.len() as u64).to_be_bytes();
         return size[i as usize];
     }
     part[(i - 8) as usize]
@@ -132,31 +105,18 @@ pub(crate) fn merge(x: u64, at: u64, part: &[u8], offset: u64, count: u64) -> u6
     requires { (at + count ≤ 8) × (offset + count ≤ 8 + length part.now) }
     ensures { result ≡ merged x at (moved part.now offset count) }
 {
-    let mut b = spread(x);
-    let mut i = 0;
-    while i < count {
+    let mut b = x.to_be_bytes();
+    for i in 0..count {
         b[(at + i) as usize] = content_at(part, offset + i);
-        i += 1;
     }
-    bytes::doubleword_at(&b, 0)
+    u64::from_be_bytes(b)
 }
 
 // How many bytes a write to 6 shifts into the key.
 pub(crate) fn shifting(a1: u64, a2: u64) -> u64
     ensures { result ≡ shifting a1 a2 }
 {
-    least(a2, 8 - a1 % 8)
-}
-
-// Byte i of the key with count bytes of b, from byte at on, behind it.
-fn behind(key: &[u8; 32], b: &[u8; 8], at: u64, count: u64, i: u64) -> u8
-    requires { (at + count ≤ 8) × (i < 32 + count) }
-    ensures { result ≡ cell (row (cell key.now) 0 32 ++ row (cell b.now) at count) i }
-{
-    if i < 32 {
-        return key[i as usize];
-    }
-    b[(at + (i - 32)) as usize]
+    a2.min(8 - a1 % 8)
 }
 
 // The key with count bytes of x, from byte at on, shifted into its end.
@@ -164,12 +124,7 @@ pub(crate) fn shift_key(key: &mut [u8; 32], x: u64, at: u64, count: u64)
     requires { at + count ≤ 8 }
     ensures { key.new ≡ shifted key.old (row (cell (bytes_of 8 x)) at count) }
 {
-    let b = spread(x);
-    let mut moved = [0u8; 32];
-    let mut i = 0;
-    while i < 32 {
-        moved[i as usize] = behind(key, &b, at, count, count + i);
-        i += 1;
-    }
-    *key = moved;
+    let n = count as usize;
+    key.copy_within(n.., 0);
+    bytes::copy(&x.to_be_bytes(), at as usize, key, Entry::KEY - n, n);
 }

@@ -3,78 +3,65 @@ ghost use Rattle.std.specs.Prelude.{◌≡◌, ◌+◌, ◌≤◌, length};
 ghost use Rattle.std.proofs.lemmas.List.Edits.{sets};
 ghost use Rattle.pages.specs.Bytes.{cell, row};
 ghost use Rattle.interpreter.specs.Machine.{state_of};
-ghost use Rattle.interpreter.specs.Layout.{flag, eights, numbers_of, last_of, encode, numbers, decode_at, formed_at, malformed, decoded_at, decode_def};
+ghost use Rattle.interpreter.specs.Layout.{eights, numbers_of, last_of, encode, numbers, decode_at, formed_at, decoded_at, decode_def};
 
-use crate::hint::Heard;
+use crate::hint;
 use crate::state::{Cpu, State};
 use pages::bytes;
 
-// Where a state's parts stand in its bytes.
-#[derive(Clone, Copy)]
-pub struct Layout {
-    pub at: usize,
-}
+/// Where a state's parts stand in its bytes.
+pub struct Layout;
 
 impl Layout {
-    pub const SIZE: usize = 360;
+    /// How many bytes a number has.
+    pub const NUMBER: usize = 8;
 
-    pub const PC: usize = 256;
+    /// How many bytes the key has.
+    pub const KEY_SIZE: usize = 32;
 
-    pub const NEXT_PC: usize = 264;
-
-    pub const HI: usize = 272;
-
-    pub const LO: usize = 280;
-
-    pub const HEAP: usize = 288;
-
-    pub const STEP: usize = 296;
-
-    pub const OFFSET: usize = 304;
-
-    pub const HINT: usize = 312;
-
-    pub const KEY: usize = 320;
-
-    pub const EXITED: usize = 352;
-
-    pub const CODE: usize = 353;
-
-    pub const RULES: usize = 354;
-
-    pub const SPARE: usize = 355;
-
-    // The last of the spare bytes.
-    pub const LAST: usize = 359;
-
-    // How many spare bytes end a state.
+    /// How many spare bytes end a state.
     pub const SPARES: usize = 5;
-}
 
-// What bytes say: the state that they are, or that they are none and a state of zeros.
-#[derive(Clone, Copy)]
-pub struct Decoded {
-    pub formed: bool,
-    pub state: State,
-}
+    /// The 32 registers come first.
+    pub const PC: usize = 32 * Layout::NUMBER;
 
-fn flag(b: bool) -> u8
-    ensures { result ≡ flag b }
-{
-    if b {
-        return 1;
-    }
-    0
+    pub const NEXT_PC: usize = Layout::PC + Layout::NUMBER;
+
+    pub const HI: usize = Layout::NEXT_PC + Layout::NUMBER;
+
+    pub const LO: usize = Layout::HI + Layout::NUMBER;
+
+    pub const HEAP: usize = Layout::LO + Layout::NUMBER;
+
+    pub const STEP: usize = Layout::HEAP + Layout::NUMBER;
+
+    pub const OFFSET: usize = Layout::STEP + Layout::NUMBER;
+
+    pub const HINT: usize = Layout::OFFSET + Layout::NUMBER;
+
+    pub const KEY: usize = Layout::HINT + Layout::NUMBER;
+
+    pub const EXITED: usize = Layout::KEY + Layout::KEY_SIZE;
+
+    pub const CODE: usize = Layout::EXITED + 1;
+
+    pub const RULES: usize = Layout::CODE + 1;
+
+    pub const SPARE: usize = Layout::RULES + 1;
+
+    /// How many bytes a state has: 360.
+    pub const SIZE: usize = Layout::SPARE + Layout::SPARES;
+
+    /// The last of the spare bytes.
+    pub const LAST: usize = Layout::SIZE - 1;
 }
 
 fn put_registers(buf: &mut [u8], at: usize, regs: &[u64; 32])
     requires { at + 256 ≤ length buf.old }
     ensures { buf.new ≡ sets buf.old at (eights regs.now 32) }
 {
-    let mut i = 0;
-    while i < 32 {
-        bytes::put_doubleword(buf, at + 8 * i, regs[i]);
-        i += 1;
+    for i in 0..32 {
+        bytes::put_doubleword(buf, at + Layout::NUMBER * i, regs[i]);
     }
 }
 
@@ -96,18 +83,14 @@ fn put_key(buf: &mut [u8], at: usize, key: &[u8; 32])
     requires { at + 32 ≤ length buf.old }
     ensures { buf.new ≡ sets buf.old at (row (cell key.now) 0 32) }
 {
-    let mut i = 0;
-    while i < 32 {
-        buf[at + i] = key[i];
-        i += 1;
-    }
+    bytes::copy(key, 0, buf, at, Layout::KEY_SIZE);
 }
 
 fn put_last(buf: &mut [u8], at: usize, c: Cpu)
     requires { at + 360 ≤ length buf.old }
     ensures { buf.new ≡ sets buf.old (at + 352) (last_of c) }
 {
-    buf[at + Layout::EXITED] = flag(c.exited);
+    buf[at + Layout::EXITED] = c.exited as u8;
     buf[at + Layout::CODE] = c.code;
     buf[at + Layout::RULES] = c.rules;
     bytes::clear(buf, at + Layout::SPARE, Layout::SPARES);
@@ -129,10 +112,8 @@ fn registers_at(b: &[u8], k: usize) -> [u64; 32]
     ensures { result ≡ numbers b.now k 32 }
 {
     let mut regs = [0u64; 32];
-    let mut i = 0;
-    while i < 32 {
-        regs[i] = bytes::doubleword_at(b, k + 8 * i);
-        i += 1;
+    for i in 0..32 {
+        regs[i] = bytes::doubleword_at(b, k + Layout::NUMBER * i);
     }
     regs
 }
@@ -142,11 +123,7 @@ fn key_at(b: &[u8], k: usize) -> [u8; 32]
     ensures { result ≡ row (cell b.now) k 32 }
 {
     let mut key = [0u8; 32];
-    let mut i = 0;
-    while i < 32 {
-        key[i] = b[k + i];
-        i += 1;
-    }
+    bytes::copy(b, k, &mut key, 0, Layout::KEY_SIZE);
     key
 }
 
@@ -191,72 +168,44 @@ pub(crate) fn formed_at(b: &[u8], k: usize) -> bool
     if b[k + Layout::RULES] > Cpu::RULES {
         return false;
     }
-    bytes::doubleword_at(b, k + Layout::HINT) <= Heard::ROOM
+    bytes::doubleword_at(b, k + Layout::HINT) <= hint::ROOM
 }
 
-fn malformed() -> Decoded
-    ensures { result ≡ malformed }
-{
-    let state = State {
-        regs: [0; 32],
-        pc: 0,
-        next: 0,
-        hi: 0,
-        lo: 0,
-        heap: 0,
-        step: 0,
-        offset: 0,
-        hint: 0,
-        key: [0; 32],
-        exited: false,
-        code: 0,
-        rules: 0,
-    };
-    Decoded {
-        formed: false,
-        state,
-    }
-}
-
-// What the state's bytes from a place on say.
-pub fn decode_at(bytes: &[u8], at: usize) -> Decoded
+/// The state in the 360 bytes from a place on; none where there are fewer bytes, or they are no state's.
+pub fn decode_at(bytes: &[u8], at: usize) -> Option<State>
     ensures { result ≡ decoded_at bytes.now at }
 {
     if bytes.len() < Layout::SIZE {
-        return malformed();
+        return None;
     }
     if bytes.len() - Layout::SIZE < at {
-        return malformed();
+        return None;
     }
     if formed_at(bytes, at) {
-        let state = state_at(bytes, at);
-        return Decoded {
-            formed: true,
-            state,
-        };
+        return Some(state_at(bytes, at));
     }
-    malformed()
+    None
 }
 
-// What the bytes say.
-pub fn decode(bytes: &[u8]) -> Decoded
+/// The state in 360 bytes; none where there are more or fewer, or they are no state's.
+pub fn decode(bytes: &[u8]) -> Option<State>
     ensures { result ≡ decode_def bytes.now }
 {
     if bytes.len() != Layout::SIZE {
-        return malformed();
+        return None;
     }
     decode_at(bytes, 0)
 }
 
 impl State {
-    pub fn encode(self) -> [u8; 360]
+    /// The state's 360 bytes.
+    pub fn encode(self) -> [u8; Layout::SIZE]
         ensures { result ≡ encode self }
     {
-        let mut buf = [0u8; 360];
+        let mut buf = [0u8; Layout::SIZE];
         let regs = self.regs;
         let key = self.key;
-        let c = self.cpu();
-        put_state(&mut buf, 0, c, &regs, &key);
+        put_state(&mut buf, 0, self.cpu(), &regs, &key);
         buf
     }
 }

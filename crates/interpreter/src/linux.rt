@@ -4,11 +4,8 @@ ghost use Rattle.interpreter.specs.Calls.{bad_descriptor, mmap, reading, writing
 
 use crate::bits;
 
-// Errors.
-#[derive(Clone, Copy)]
-pub struct Errno {
-    pub number: u64,
-}
+/// Errors.
+pub struct Errno;
 
 impl Errno {
     pub const EBADF: u64 = 9;
@@ -16,11 +13,8 @@ impl Errno {
     pub const EINVAL: u64 = 22;
 }
 
-// Descriptors.
-#[derive(Clone, Copy)]
-pub struct Fd {
-    pub number: u64,
-}
+/// Descriptors.
+pub struct Fd;
 
 impl Fd {
     pub const STDIN: u64 = 0;
@@ -38,10 +32,8 @@ impl Fd {
     pub const PREIMAGE_WRITE: u64 = 6;
 }
 
-#[derive(Clone, Copy)]
-pub struct Syscall {
-    pub number: u64,
-}
+/// Calls, by number.
+pub struct Syscall;
 
 impl Syscall {
     pub const READ: u64 = 5000;
@@ -68,8 +60,8 @@ impl Syscall {
     pub const PAGE: u64 = 4096;
 }
 
-// Which call it is. What touches no memory is answered already.
-#[derive(Clone, Copy)]
+/// Which call it is. What touches no memory is answered already.
+#[derive(Clone, Copy, Debug, PartialEq, Eq)]
 pub enum Call {
     // The answer, and the error.
     Answer(u64, u64),
@@ -150,7 +142,7 @@ fn control(fd: u64, a1: u64) -> Call
     Call::Answer(u64::MAX, Errno::EINVAL)
 }
 
-// The call with this number, descriptor, arguments and heap.
+/// The call with this number, descriptor, arguments and heap.
 pub fn call_of(number: u64, fd: u64, a0: u64, a1: u64, a2: u64, heap: u64) -> Call
     ensures { result ≡ call_of number fd a0 a1 a2 heap }
 {

@@ -1,6 +1,6 @@
 // Many steps in a row, as long as each is an instruction on pages that are there. Every other step ends them, and is left to
 // `step::advance`.
-ghost use Rattle.std.specs.Prelude.{◌≡◌, ℕ, ◌%◌, ◌<◌, true, false, List, Ok};
+ghost use Rattle.std.specs.Prelude.{◌≡◌, ℕ, ◌%◌, ◌<◌, true, false, List, Ok, Some, None};
 ghost use Rattle.pages.specs.Pages.{byte_at};
 ghost use Rattle.pages.specs.Calls.{stored};
 ghost use Rattle.interpreter.specs.Machine.{machine, bad};
@@ -8,9 +8,8 @@ ghost use Rattle.interpreter.specs.Plan.{eight_at, storing, touch_of};
 ghost use Rattle.interpreter.specs.Step.{putting};
 ghost use Rattle.interpreter.specs.Parts.{Shows, Both, covered, core_of, cpu_with, Completed, Turned, Fetches, Gone};
 ghost use Rattle.interpreter.specs.declared.window.Window.{Window};
-ghost use Rattle.interpreter.specs.declared.effect.Touch.TheVariants.{Nothing, Eight};
 
-use crate::effect::{Change, Touch};
+use crate::effect::Change;
 use crate::isa::Opcode;
 use crate::key::Key;
 use crate::state::Cpu;
@@ -74,42 +73,42 @@ impl Cpu {
 }
 
 // The page of the touched eight bytes comes first.
-fn window_of(d: Pair, pages: &[u8], used: usize, t: Touch) -> Pair
+fn window_of(d: Pair, pages: &[u8], used: usize, t: Option<u64>) -> Pair
     requires { Both pages.now used d }
     ensures { Both pages.now used result }
 {
     match t {
-        Touch::Nothing => d,
-        Touch::Eight(a) => d.to(pages, used, a),
+        None => d,
+        Some(a) => d.to(pages, used, a),
     }
 }
 
-fn covers(w: Window, t: Touch) -> bool
+fn covers(w: Window, t: Option<u64>) -> bool
     ensures { result ≡ covered w t }
 {
     match t {
-        Touch::Nothing => true,
-        Touch::Eight(a) => w.has(a),
+        None => true,
+        Some(a) => w.has(a),
     }
 }
 
-fn touched(w: Window, pages: &[u8], used: usize, t: Touch) -> u64
-    requires { Shows pages.now used w × (covered w t ≡ true) × ((a : ℕ) → t ≡ Eight a → a % 8 ≡ 0) }
+fn touched(w: Window, pages: &[u8], used: usize, t: Option<u64>) -> u64
+    requires { Shows pages.now used w × (covered w t ≡ true) × ((a : ℕ) → t ≡ Some a → a % 8 ≡ 0) }
     ensures { result ≡ eight_at (byte_at pages.now used) t }
 {
     match t {
-        Touch::Nothing => 0,
-        Touch::Eight(a) => w.doubleword(pages, used, a),
+        None => 0,
+        Some(a) => w.doubleword(pages, used, a),
     }
 }
 
-fn settle(w: Window, pages: &mut [u8], used: usize, t: Touch, e: Change)
-    requires { Shows pages.old used w × (covered w t ≡ true) × ((a : ℕ) → t ≡ Eight a → a % 8 ≡ 0) }
+fn settle(w: Window, pages: &mut [u8], used: usize, t: Option<u64>, e: Change)
+    requires { Shows pages.old used w × (covered w t ≡ true) × ((a : ℕ) → t ≡ Some a → a % 8 ≡ 0) }
     ensures { (stored (Ok used) pages.new ≡ putting pages.old used (storing t e)) × ((v : Window) → Shows pages.old used v → Shows pages.new used v) }
 {
     match t {
-        Touch::Nothing => {}
-        Touch::Eight(a) => {
+        None => {}
+        Some(a) => {
             if let Some(m) = e.store {
                 w.put_doubleword(pages, used, a, m);
             }
@@ -120,7 +119,7 @@ fn settle(w: Window, pages: &mut [u8], used: usize, t: Touch, e: Change)
 // The step once it is known what changes and that nothing is stored.
 fn finish(regs: &mut [u64; 32], d: Pair, e: Change) -> Turn
     requires { e.dest < 32 }
-    ensures { (p : List ℕ) (u : ℕ) → Completed regs.old p u d Nothing e result regs.new p }
+    ensures { (p : List ℕ) (u : ℕ) → Completed regs.old p u d None e result regs.new p }
 {
     step::set_reg(regs, e.dest, e.value);
     Turn {
@@ -141,10 +140,10 @@ fn complete(
     pages: &mut [u8],
     used: usize,
     d: Pair,
-    t: Touch,
+    t: Option<u64>,
     e: Change,
 ) -> Turn
-    requires { Both pages.old used d × (covered d.near t ≡ true) × ((a : ℕ) → t ≡ Eight a → a % 8 ≡ 0) × (e.dest < 32) }
+    requires { Both pages.old used d × (covered d.near t ≡ true) × ((a : ℕ) → t ≡ Some a → a % 8 ≡ 0) × (e.dest < 32) }
     ensures { Completed regs.old pages.old used d t e result regs.new pages.new }
 {
     let w = d.near;
@@ -161,7 +160,7 @@ fn rarely(
     pages: &mut [u8],
     used: usize,
     d: Pair,
-    t: Touch,
+    t: Option<u64>,
     mem: u64,
 ) -> Turn
     requires { Both pages.old used d × (covered d.near t ≡ true) × (t ≡ touch_of regs.old word) × (mem ≡ eight_at (byte_at pages.old used) t) }
@@ -232,7 +231,7 @@ fn once(
     let w = data.near;
     let kept = frequent::kept(i, w, pages, used, key);
     if let Some(e) = kept {
-        let t = Touch::Eight(i.address() / 8 * 8);
+        let t = Some(i.address() / 8 * 8);
         return complete(regs, pages, used, data, t, e);
     }
     slowly(c, k, word, regs, pages, used, data)

@@ -1,5 +1,5 @@
 // The step record (document 01, "The step record").
-ghost use Rattle.std.specs.Prelude.{◌≡◌, ℕ, ◌%◌, length};
+ghost use Rattle.std.specs.Prelude.{◌≡◌, ℕ, ◌%◌, length, Some};
 ghost use Rattle.std.proofs.lemmas.List.Edits.{sets};
 ghost use Rattle.interpreter.specs.Records.{touch_bytes, rest_of, record_of};
 ghost use Rattle.interpreter.specs.Machine.{reg};
@@ -7,66 +7,64 @@ ghost use Rattle.interpreter.specs.Plan.{call_in};
 ghost use Rattle.interpreter.specs.Step.{machine_of, finished, step_def};
 ghost use Rattle.interpreter.specs.Recording.{recorded, recorded_def};
 ghost use Rattle.interpreter.specs.Parts.{seen_call, seen, recording_as};
-ghost use Rattle.interpreter.specs.declared.effect.Touch.TheVariants.{Eight};
 
-use crate::effect::{Stop, Touch};
+use crate::effect::Stop;
+use crate::layout::Layout;
 use crate::linux::Call;
 use crate::state::{Cpu, State};
 use crate::step::Finished;
 use crate::{cpu, layout, step, syscall};
 use pages::bytes;
 
-// Where a record's parts stand in its bytes.
-#[derive(Clone, Copy)]
-pub struct Record {
-    pub at: usize,
-}
+/// Where a record's parts stand in its bytes: two states, the instruction, and the touched eight bytes before and after.
+pub struct Record;
 
 impl Record {
-    pub const SIZE: usize = 752;
+    /// How many spare bytes follow the instruction.
+    pub const SPARES: usize = 4;
 
     pub const OLD_STATE: usize = 0;
 
-    pub const NEW_STATE: usize = 360;
+    pub const NEW_STATE: usize = Layout::SIZE;
 
-    pub const WORD: usize = 720;
+    pub const WORD: usize = Record::NEW_STATE + Layout::SIZE;
 
-    pub const SPARE: usize = 724;
+    pub const SPARE: usize = Record::WORD + 4;
 
-    // How many spare bytes follow the instruction.
-    pub const SPARES: usize = 4;
+    pub const ADDRESS: usize = Record::SPARE + Record::SPARES;
 
-    pub const ADDRESS: usize = 728;
+    pub const OLD_EIGHT: usize = Record::ADDRESS + Layout::NUMBER;
 
-    pub const OLD_EIGHT: usize = 736;
+    pub const NEW_EIGHT: usize = Record::OLD_EIGHT + Layout::NUMBER;
 
-    pub const NEW_EIGHT: usize = 744;
+    /// How many bytes a record has: 752.
+    pub const SIZE: usize = Record::NEW_EIGHT + Layout::NUMBER;
 
-    // How many bytes the address and the eights have.
-    pub const TOUCH_SIZE: usize = 24;
+    /// How many bytes the address and the eights have.
+    pub const TOUCH_SIZE: usize = Record::SIZE - Record::ADDRESS;
 }
 
 fn put_eights(buf: &mut [u8], address: u64, old: u64, new: u64)
     requires { length buf.old ≡ 752 }
-    ensures { buf.new ≡ sets buf.old 728 (touch_bytes (Eight address) old new) }
+    ensures { buf.new ≡ sets buf.old 728 (touch_bytes (Some address) old new) }
 {
     bytes::put_doubleword(buf, Record::ADDRESS, address);
     bytes::put_doubleword(buf, Record::OLD_EIGHT, old);
     bytes::put_doubleword(buf, Record::NEW_EIGHT, new);
 }
 
-fn put_touch(buf: &mut [u8], t: Touch, old: u64, new: u64)
+fn put_touch(buf: &mut [u8], t: Option<u64>, old: u64, new: u64)
     requires { length buf.old ≡ 752 }
     ensures { buf.new ≡ sets buf.old 728 (touch_bytes t old new) }
 {
     match t {
-        Touch::Nothing => bytes::clear(buf, Record::ADDRESS, Record::TOUCH_SIZE),
-        Touch::Eight(a) => put_eights(buf, a, old, new),
+        None => bytes::clear(buf, Record::ADDRESS, Record::TOUCH_SIZE),
+        Some(a) => put_eights(buf, a, old, new),
     }
 }
 
 // Bytes 720 to 751: the instruction, and the eight bytes that it touched, as they were and as they are.
-pub(crate) fn put_rest(buf: &mut [u8], word: u64, t: Touch, old: u64, new: u64)
+pub(crate) fn put_rest(buf: &mut [u8], word: u64, t: Option<u64>, old: u64, new: u64)
     requires { length buf.old ≡ 752 }
     ensures { buf.new ≡ sets buf.old 720 (rest_of word t old new) }
 {
@@ -75,17 +73,11 @@ pub(crate) fn put_rest(buf: &mut [u8], word: u64, t: Touch, old: u64, new: u64)
     put_touch(buf, t, old, new);
 }
 
-// What is known of a step before it is made: whether it is wide, and the eight bytes that it touches.
+// What is known of a step before it is made: it is wide, or these are the eight bytes that it touches.
 #[derive(Clone, Copy)]
-pub(crate) struct Seen {
-    pub wide: bool,
-    pub touch: Touch,
-}
-
-fn see(wide: bool, touch: Touch) -> Seen
-    ensures { result ≡ record { wide = wide; touch = touch } }
-{
-    Seen { wide, touch }
+pub(crate) enum Seen {
+    Wide,
+    Narrow(Option<u64>),
 }
 
 // The same of a system call.
@@ -94,13 +86,13 @@ fn see_call(c: Cpu, regs: &[u64; 32]) -> Seen
 {
     let called = syscall::call_in(c, regs);
     match called {
-        Call::Answer(v, e) => see(false, Touch::Nothing),
-        Call::Heap(h) => see(false, Touch::Nothing),
-        Call::Exit(n) => see(false, Touch::Nothing),
-        Call::Key => see(false, Touch::Eight(step::aligned(regs[5]))),
-        Call::Input => see(true, Touch::Nothing),
-        Call::Write(s) => see(true, Touch::Nothing),
-        Call::Hint => see(true, Touch::Nothing),
+        Call::Answer(v, e) => Seen::Narrow(None),
+        Call::Heap(h) => Seen::Narrow(None),
+        Call::Exit(n) => Seen::Narrow(None),
+        Call::Key => Seen::Narrow(Some(step::aligned(regs[5]))),
+        Call::Input => Seen::Wide,
+        Call::Write(s) => Seen::Wide,
+        Call::Hint => Seen::Wide,
     }
 }
 
@@ -111,16 +103,16 @@ fn look(c: Cpu, regs: &[u64; 32], word: u64) -> Seen
 {
     let effect = cpu::kernel(step::ins_of(c, regs, word, 0));
     match effect {
-        Ok(e) => see(false, step::touch_of(regs, word)),
+        Ok(e) => Seen::Narrow(step::touch_of(regs, word)),
         Err(stop) => match stop {
-            Stop::Refused(n) => see(false, step::touch_of(regs, word)),
+            Stop::Refused(n) => Seen::Narrow(step::touch_of(regs, word)),
             Stop::Call => see_call(c, regs),
         },
     }
 }
 
 // The whole record.
-fn fill(buf: &mut [u8], s: State, n: State, word: u64, t: Touch, old: u64, new: u64)
+fn fill(buf: &mut [u8], s: State, n: State, word: u64, t: Option<u64>, old: u64, new: u64)
     requires { length buf.old ≡ 752 }
     ensures { buf.new ≡ record_of s n word t old new }
 {
@@ -144,9 +136,9 @@ fn step_seen(
     data: &[u8],
     buf: &mut [u8],
     word: u64,
-    t: Touch,
+    t: Option<u64>,
 ) -> Finished
-    requires { (length buf.old ≡ 752) × ((a : ℕ) → t ≡ Eight a → a % 8 ≡ 0) }
+    requires { (length buf.old ≡ 752) × ((a : ℕ) → t ≡ Some a → a % 8 ≡ 0) }
     ensures { recorded (finished result pages.new hint.new output.new) buf.new ≡ recording_as (machine_of s used pages.old hint.old output.old) buf.old word t (step_def index.now «data».now (machine_of s used pages.old hint.old output.old)) }
 {
     let old = step::touched(pages, used, t);
@@ -159,7 +151,7 @@ fn step_seen(
     r
 }
 
-// One step, by value, with its record: filled for every unrefused step from an unexited state that isn't wide.
+/// One step, by value, with its record: filled for every unrefused step from an unexited state that isn't wide.
 pub fn step_recorded(
     s: State,
     pages: &mut [u8],
@@ -182,9 +174,8 @@ pub fn step_recorded(
     let regs = s.regs;
     let word = step::fetch(pages, used, c.pc);
     let seen = look(c, &regs, word);
-    if seen.wide {
-        return step::step(s, pages, used, hint, output, index, data);
+    match seen {
+        Seen::Wide => step::step(s, pages, used, hint, output, index, data),
+        Seen::Narrow(t) => step_seen(s, pages, used, hint, output, index, data, buf, word, t),
     }
-    let t = seen.touch;
-    step_seen(s, pages, used, hint, output, index, data, buf, word, t)
 }

@@ -5,8 +5,8 @@ ghost use Rattle.interpreter.specs.Machine.{cpu_of, state_of, counted, changed, 
 use crate::bits;
 use crate::effect::Change;
 
-// The state, with its rules number.
-#[derive(Clone, Copy)]
+/// The state, with its rules number.
+#[derive(Clone, Copy, Debug, Default, PartialEq, Eq)]
 pub struct State {
     pub regs: [u64; 32],
     pub pc: u64,
@@ -27,7 +27,7 @@ pub struct State {
 }
 
 // A state's numbers, without its registers and key: a step works on these and on lent registers.
-#[derive(Clone, Copy)]
+#[derive(Clone, Copy, Debug, PartialEq, Eq)]
 pub struct Cpu {
     pub pc: u64,
     pub next: u64,
@@ -43,6 +43,7 @@ pub struct Cpu {
 }
 
 impl State {
+    /// The numbers alone.
     pub fn cpu(self) -> Cpu
         ensures { result ≡ cpu_of self }
     {
@@ -63,8 +64,8 @@ impl State {
 }
 
 impl Cpu {
-    // The state of these numbers with registers and key.
-    pub(crate) fn with(self, regs: [u64; 32], key: [u8; 32]) -> State
+    /// The state of these numbers with registers and key.
+    pub fn with(self, regs: [u64; 32], key: [u8; 32]) -> State
         ensures { result ≡ state_of self regs key }
     {
         State {

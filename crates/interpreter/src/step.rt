@@ -1,5 +1,5 @@
 // One step (cpu.rs).
-ghost use Rattle.std.specs.Prelude.{◌≡◌, ℕ, ◌*◌, ◌/◌, ◌%◌, ◌<◌, ◌≤◌, List};
+ghost use Rattle.std.specs.Prelude.{◌≡◌, ℕ, ◌*◌, ◌/◌, ◌%◌, ◌<◌, ◌≤◌, List, Some};
 ghost use Rattle.pages.specs.Bytes.{big};
 ghost use Rattle.pages.specs.Pages.{byte_at};
 ghost use Rattle.pages.specs.Calls.{stored};
@@ -8,9 +8,8 @@ ghost use Rattle.interpreter.specs.Plan.{does, changing, storing, eight_at, ins_
 ghost use Rattle.interpreter.specs.Step.{values_of, refused, putting, working, advance, machine_of, finished, in_place, step_def};
 ghost use Rattle.interpreter.specs.Parts.{after, doing, refusing};
 ghost use Rattle.interpreter.specs.declared.effect.Refusal.TheVariants.{BadMachine};
-ghost use Rattle.interpreter.specs.declared.effect.Touch.TheVariants.{Eight};
 
-use crate::effect::{Change, Ins, Refusal, Stop, Touch};
+use crate::effect::{Change, Ins, Refusal, Stop};
 use crate::isa::IType;
 use crate::state::{Cpu, State};
 use crate::{cpu, hint, syscall};
@@ -130,12 +129,12 @@ pub(crate) fn set_reg(regs: &mut [u64; 32], i: u64, v: u64)
 }
 
 // What an instruction stores, if anything.
-fn settle(pages: &mut [u8], used: usize, t: Touch, e: Change) -> Result<usize, StoreError>
+fn settle(pages: &mut [u8], used: usize, t: Option<u64>, e: Change) -> Result<usize, StoreError>
     ensures { stored result pages.new ≡ putting pages.old used (storing t e) }
 {
     match t {
-        Touch::Nothing => Ok(used),
-        Touch::Eight(a) => {
+        None => Ok(used),
+        Some(a) => {
             if let Some(m) = e.store {
                 return memory::set_doubleword(pages, used, a, m);
             }
@@ -172,7 +171,7 @@ fn complete(
     regs: &mut [u64; 32],
     pages: &mut [u8],
     used: usize,
-    t: Touch,
+    t: Option<u64>,
     e: Change,
 ) -> Next
     requires { e.dest < 32 }
@@ -190,13 +189,13 @@ fn complete(
 }
 
 // The eight bytes that an instruction touches.
-pub(crate) fn touched(pages: &[u8], used: usize, t: Touch) -> u64
-    requires { (a : ℕ) → t ≡ Eight a → a % 8 ≡ 0 }
+pub(crate) fn touched(pages: &[u8], used: usize, t: Option<u64>) -> u64
+    requires { (a : ℕ) → t ≡ Some a → a % 8 ≡ 0 }
     ensures { result ≡ eight_at (byte_at pages.now used) t }
 {
     match t {
-        Touch::Nothing => 0,
-        Touch::Eight(a) => eight(pages, used, a),
+        None => 0,
+        Some(a) => eight(pages, used, a),
     }
 }
 
@@ -218,7 +217,7 @@ pub(crate) fn ins_of(c: Cpu, regs: &[u64; 32], word: u64, mem: u64) -> Ins
     }
 }
 
-pub(crate) fn touch_of(regs: &[u64; 32], word: u64) -> Touch
+pub(crate) fn touch_of(regs: &[u64; 32], word: u64) -> Option<u64>
     ensures { result ≡ touch_of regs.now word }
 {
     cpu::touch(word, register(regs, IType::decode(word).rs))

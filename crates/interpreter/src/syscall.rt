@@ -7,8 +7,6 @@ ghost use Rattle.interpreter.specs.Parts.{after};
 ghost use Rattle.interpreter.specs.declared.linux.Call.TheVariants.{Answer as Reply, Heap, Exit, Key, Input, Write, Hint as HintWrite};
 
 use crate::effect::Refusal;
-use crate::hint::Heard;
-use crate::input::Entry;
 use crate::linux::Call;
 use crate::state::Cpu;
 use crate::step::{Answer, Next};
@@ -111,18 +109,17 @@ fn hinted(
     let a2 = regs[6];
     let heard = hint::listen(pages, used, hint, c.hint, a1, a2, output);
     match heard {
-        Heard::Refuse(n) => step::refuse(c, used, n),
-        Heard::Keep => {
+        Err(n) => step::refuse(c, used, n),
+        Ok(handed) => {
             reply(regs, a2, 0);
-            step::doing(
-                Answer::Stepped,
-                c.onward(c.heap, c.offset, bits::plus(c.hint, a2)),
-                used,
-            )
-        }
-        Heard::HandOut(n) => {
-            reply(regs, a2, 0);
-            step::doing(Answer::Hint(n), c.onward(c.heap, c.offset, 0), used)
+            match handed {
+                None => step::doing(
+                    Answer::Stepped,
+                    c.onward(c.heap, c.offset, bits::plus(c.hint, a2)),
+                    used,
+                ),
+                Some(n) => step::doing(Answer::Hint(n), c.onward(c.heap, c.offset, 0), used),
+            }
         }
     }
 }
@@ -149,21 +146,11 @@ fn read_bytes(c: Cpu, regs: &mut [u64; 32], pages: &mut [u8], used: usize, part:
     }
 }
 
-// How far an offset lies behind the eight bytes of a preimage's length.
-fn behind_length(offset: u64) -> u64
-    ensures { result ≡ offset - 8 }
-{
-    if offset < 8 {
-        return 0;
-    }
-    offset - 8
-}
-
 // 5000 on 5 once the preimage is found.
 fn read_part(c: Cpu, regs: &mut [u64; 32], pages: &mut [u8], used: usize, part: &[u8]) -> Next
     ensures { (k h o x d : List ℕ) → after result regs.new k pages.new h o ≡ working x d (machine c regs.old k used pages.old h o) (λ s. reading_in s part.now) }
 {
-    if (part.len() as u64) < behind_length(c.offset) {
+    if (part.len() as u64) < c.offset.saturating_sub(8) {
         return step::refuse(c, used, Refusal::InputOffset);
     }
     read_bytes(c, regs, pages, used, part)
@@ -190,17 +177,14 @@ fn read_input(
 ) -> Next
     ensures { (h o : List ℕ) → after result regs.new key.now pages.new h o ≡ working index.now «data».now (machine c regs.old key.now used pages.old h o) (λ s. calling s Input) }
 {
-    let entry = input::entry_of(index, key);
-    match entry {
-        Entry::Absent => step::refuse(c, used, Refusal::NoInput),
-        Entry::At(start, n) => {
-            if input::inside(data, start, n) {
-                let part = input::part_of(data, start, n);
-                return read_part(c, regs, pages, used, part);
-            }
-            step::refuse(c, used, Refusal::NoInput)
-        }
+    let Some(entry) = input::entry_of(index, key) else {
+        return step::refuse(c, used, Refusal::NoInput);
+    };
+    if !input::inside(data, entry.start, entry.length) {
+        return step::refuse(c, used, Refusal::NoInput);
     }
+    let part = input::part_of(data, entry.start, entry.length);
+    read_part(c, regs, pages, used, part)
 }
 
 pub(crate) fn call(

@@ -3,10 +3,7 @@ ghost use Rattle.std.specs.Prelude.{◌≡◌, ◌<◌, ◌≤◌, [], ◌∷◌
 ghost use Rattle.interpreter.specs.Utf8.{◌to◌, begins, character, utf8};
 
 // A byte behind a character's first.
-#[derive(Clone, Copy)]
-struct Tail {
-    byte: u8,
-}
+struct Tail;
 
 impl Tail {
     const LOW: u8 = 0x80;

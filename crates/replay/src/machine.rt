@@ -260,22 +260,21 @@ fn laid(v: &[u8], f: Front, way: Way) -> Replayed {
         &mut index,
         &mut data,
     );
-    let start = layout::decode(&state);
+    let Some(s) = layout::decode(&state) else {
+        return Replayed::Differs;
+    };
     let mut p = pages;
     let mut h = hint;
     let mut o = output;
     lay_after(v, at, &mut state, &mut p, &mut h, &mut o);
-    let s = start.state;
     let made = stepped(s, f, &mut pages, &mut hint, &mut output, &index, &data, way);
     let end = made.end;
     if same_lent(&pages, &hint, &output, &p, &h, &o) {
-        if start.formed {
-            if same_finish(end, f, &state) {
-                if made.second {
-                    return Replayed::Twice;
-                }
-                return Replayed::Agrees;
+        if same_finish(end, f, &state) {
+            if made.second {
+                return Replayed::Twice;
             }
+            return Replayed::Agrees;
         }
     }
     Replayed::Differs

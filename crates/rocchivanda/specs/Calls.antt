@@ -1,5 +1,5 @@
 -- What each function of the interface answers, and what it leaves in every byte and number that it was lent.
-use Rattle.std.specs.Prelude.{ℕ, Bool, ◌&&◌, cond, List, [], ◌∷◌, eqb, leb, length}
+use Rattle.std.specs.Prelude.{ℕ, Bool, ◌&&◌, cond, List, [], ◌∷◌, eqb, leb, length, Ok, Err, is_some}
 use Rattle.std.proofs.lemmas.List.Edits.{sets}
 use Rattle.pages.specs.Bytes.{cell, big}
 use Rattle.interpreter.specs.declared.effect.Refusal.TheVariants.{BadMachine}
@@ -11,9 +11,7 @@ use Rattle.interpreter.specs.Layout.{encode, decode_at, decode_def}
 use Rattle.interpreter.specs.Step.{values_of, machine_of, step_def}
 use Rattle.interpreter.specs.Recording.{Recorded, state_in, recorded_def}
 use Rattle.interpreter.specs.Runs.{Ran, ran, ended, run_def}
-use Rattle.checker.specs.declared.verdict.Verdict.{Verdict}
-use Rattle.checker.specs.declared.verdict.Verdict.TheVariants.{Accepted, Refused as RefusedRecord}
-use Rattle.checker.specs.Verdicts.{fault_number}
+use Rattle.checker.specs.Verdicts.{Verdict, fault_number}
 use Rattle.checker.specs.Check.{check_def}
 
 -- what a caller lends to be changed
@@ -67,7 +65,7 @@ stays l a = ends l.answer l.state (ran a (machine_in l) 0)
 -- that of a call without one. Of well-formed bytes it refuses only rules above 1 and a hint length above 65,536, which refusal 1
 -- names (`beyond_step` and `beyond_run` in proofs/Laws/Beyond)
 unfoldable pub calling : Lent → Answer → Ran → Called
-calling l without r = cond (leb 4 (length l.answer)) (cond (decode_def l.state).formed (leaves l.answer r) (stays l without)) (called 4 l)
+calling l without r = cond (leb 4 (length l.answer)) (cond (is_some (decode_def l.state)) (leaves l.answer r) (stays l without)) (called 4 l)
 
 -- ---- the five functions: x is the input index, d the input data
 
@@ -91,15 +89,15 @@ filed c b = record { called = c; buf = b }
 
 -- without four entries and a state the record buffer b stays too
 abbrev pub filing : Lent → List ℕ → Recorded → Filed
-filing l b r = filed (calling l (Refused BadMachine) (ended r.left)) (cond (leb 4 (length l.answer) && (decode_def l.state).formed) r.buf b)
+filing l b r = filed (calling l (Refused BadMachine) (ended r.left)) (cond (leb 4 (length l.answer) && is_some (decode_def l.state)) r.buf b)
 
 unfoldable pub record_call : List ℕ → List ℕ → Lent → List ℕ → Filed
 record_call x d l b = filing l b (recorded_def x d (machine_in l) b)
 
 -- 0 for accepted
 abbrev pub verdict_number : Verdict → ℕ
-verdict_number Accepted = 0
-verdict_number (RefusedRecord f) = fault_number f
+verdict_number (Ok u) = 0
+verdict_number (Err f) = fault_number f
 
 unfoldable pub check_call : List ℕ → ℕ
 check_call b = verdict_number (check_def b)

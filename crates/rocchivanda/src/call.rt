@@ -16,10 +16,7 @@ use interpreter::step::{Answer, Finished};
 use pages::bytes;
 
 // The answer's entries.
-#[derive(Clone, Copy)]
-pub(crate) struct Entries {
-    pub at: usize,
-}
+pub(crate) struct Entries;
 
 impl Entries {
     pub(crate) const COUNT: usize = 4;

@@ -9,7 +9,6 @@ mod call;
 
 use call::Entries;
 use checker::check;
-use checker::verdict::Verdict;
 use interpreter::{layout, record, run, step};
 
 // One step.
@@ -27,11 +26,9 @@ pub fn rocchivanda_step(
     if answer.len() < Entries::COUNT {
         return Entries::REFUSED;
     }
-    let start = layout::decode(state);
-    if !start.formed {
+    let Some(s) = layout::decode(state) else {
         return call::refuse(answer);
-    }
-    let s = start.state;
+    };
     let used = call::used(answer);
     let done = step::step(s, pages, used, hint, output, index, data);
     call::finish(state, answer, call::ended(done))
@@ -53,11 +50,9 @@ pub fn rocchivanda_step_recorded(
     if answer.len() < Entries::COUNT {
         return Entries::REFUSED;
     }
-    let start = layout::decode(state);
-    if !start.formed {
+    let Some(s) = layout::decode(state) else {
         return call::refuse(answer);
-    }
-    let s = start.state;
+    };
     let used = call::used(answer);
     let done = record::step_recorded(s, pages, used, hint, output, index, data, record);
     call::finish(state, answer, call::ended(done))
@@ -79,12 +74,10 @@ pub fn rocchivanda_run(
     if answer.len() < Entries::COUNT {
         return Entries::REFUSED;
     }
-    let start = layout::decode(state);
-    if !start.formed {
+    let Some(s) = layout::decode(state) else {
         let without = call::idle(budget, state);
         return call::stand(answer, without);
-    }
-    let s = start.state;
+    };
     let used = call::used(answer);
     let end = run::run(s, pages, used, hint, output, index, data, budget);
     call::finish(state, answer, end)
@@ -94,10 +87,9 @@ pub fn rocchivanda_run(
 pub fn rocchivanda_check(record: &[u8]) -> u64
     ensures { result ≡ check_call «record».now }
 {
-    let verdict = check::check(record);
-    match verdict {
-        Verdict::Accepted => 0,
-        Verdict::Refused(f) => f.number() as u64,
+    match check::check(record) {
+        Ok(()) => 0,
+        Err(fault) => u8::from(fault) as u64,
     }
 }
 

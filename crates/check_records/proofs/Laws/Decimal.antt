@@ -1,13 +1,11 @@
 -- A number's digits, and how long a line is.
-use Rattle.std.proofs.Common.{◌≡◌, ℕ, zero, suc, ◌+◌, ◌-◌, ◌/◌, ◌%◌, ◌^◌, ◌<◌, ◌≤◌, Bool, true, false, cond, ltb, [], ◌∷◌, ◌++◌, length, refl, pow-suc, arith, length-append, le-ltb, lt-ltb}
+use Rattle.std.proofs.Common.{◌≡◌, ℕ, zero, suc, ◌+◌, ◌-◌, ◌/◌, ◌%◌, ◌^◌, ◌<◌, ◌≤◌, Bool, true, false, cond, ltb, [], ◌∷◌, ◌++◌, length, refl, pow-suc, arith, length-append, le-ltb, lt-ltb, Ok, Err}
 use native.Mathlib.Nat.{one-le-pow, pow-le-pow_right}
 use native.Mathlib.Decide.{dec_le}
 use Rattle.io.specs.Digits.{last_digits, IsDigitCount}
 use Rattle.checker.specs.declared.verdict.Fault.{Fault}
 use Rattle.checker.specs.declared.verdict.Fault.TheVariants.{Length, Form, AlreadyExited, StepRefused, WideStep, Touch, Result}
-use Rattle.checker.specs.declared.verdict.Verdict.{Verdict}
-use Rattle.checker.specs.declared.verdict.Verdict.TheVariants.{Accepted, Refused}
-use Rattle.checker.specs.Verdicts.{fault_number}
+use Rattle.checker.specs.Verdicts.{Verdict, fault_number}
 use Rattle.check_records.specs.Lines.{decimal_in, decimal, said, line}
 
 -- ---- the fewest digits that hold a number are its decimal
@@ -78,8 +76,8 @@ length_fault Result = refl
 
 length_said : (v : Verdict) → length (said v) ≤ 10
 unfolding said
-length_said Accepted = omega arith
-length_said (Refused f) = omega (arith, length_fault f)
+length_said (Ok u) = omega arith
+length_said (Err f) = omega (arith, length_fault f)
 
 pub length_line : (n : ℕ) (v : Verdict) → length (line n v) ≤ 32
 unfolding line decimal

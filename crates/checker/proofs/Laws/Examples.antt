@@ -1,10 +1,9 @@
 -- Document 01's fourteen examples hold: one test is computed over the whole table, and mathlib's `decide_iff` turns it into what the rows say.
-use mathlib.Core.Path.{◌≡◌, refl}
+use Rattle.std.proofs.Common.{◌≡◌, refl, true, List, [], ◌∷◌, Ok, Err}
+use Rattle.std.proofs.Math.Bool.{decide, decide_iff}
+use Rattle.std.proofs.Math.Decide.{ℕ_discrete}
 use mathlib.Core.Logic.Dec
-use mathlib.Core.Bool.{true, decide, decide_iff}
-use mathlib.Core.List.{List, [], ◌∷◌}
-use native.Mathlib.Decide.{ℕ_discrete}
-use lib.Count.{count_leading_zeros}
+use Rattle.std.specs.Int.Count.{count_leading_zeros}
 use Rattle.pages.specs.Bytes.{row, big, bytes_of}
 use Rattle.pages.specs.Memory.{write}
 use Rattle.interpreter.specs.Words.{sext, sign_extend, bitwise, magnitude, signed, quotient, product}
@@ -23,8 +22,8 @@ use Rattle.interpreter.specs.Inputs.{same}
 use Rattle.interpreter.specs.Recording.{calls, wide, touched}
 use Rattle.interpreter.specs.Ideal.{ideal_view, follow, ideal_step}
 use Rattle.interpreter.specs.Shown.{effect_shown, plan_shown}
-use Rattle.checker.specs.declared.verdict.Verdict.{Verdict}
-use Rattle.checker.specs.declared.verdict.Verdict.TheVariants.{Accepted, Refused}
+use Rattle.checker.specs.Verdicts.{Verdict}
+use Rattle.checker.specs.Verdicts.{Accepted, Refused}
 use Rattle.checker.specs.Records.{old_in, new_in, word_in, address_in, old_eight, new_eight, touch_in, effect_in, plan_in}
 use Rattle.checker.specs.Check.{wrong_length, malformed, exited_in, refused_in, wide_in, misplaced, same_numbers, same_state, differs, applies, first_fault, check_def}
 use Rattle.checker.specs.Examples.{result_discrete, Example, executes, accepts, record14, examples, start_regs, step_of, comes, Says, Every}
@@ -36,8 +35,8 @@ Named (executes number ins w x regs p r0 r1) = decode w ≡ ins
 Named (accepts number r) = Unit {0}
 
 abbrev accepted : (v : Verdict) → Dec (v ≡ Accepted)
-accepted Accepted = yes refl
-accepted (Refused f) = no refused_not
+accepted (Ok tt) = yes refl
+accepted (Err f) = no refused_not
 
 -- the test of a row, and of all rows
 abbrev decided : (e : Example) → Named e → Dec (Says e)

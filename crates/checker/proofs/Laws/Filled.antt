@@ -1,18 +1,9 @@
 -- Every record that the machine fills is accepted.
-use mathlib.Core.Path.{◌≡◌, refl, sym, ap, subst, ◌∙◌}
-use mathlib.Core.Bool.{Bool, true, false, not}
-use mathlib.Core.List.{List}
-use Prim.Native.Nat.{ℕ, ◌+◌, ◌^◌, ◌<◌}
-use native.Mathlib.Nat.{mod-eq_of_lt}
-use native.Mathlib.Omega.{arith}
-use lib.ListN.{length}
-use borrow.Author.Tests.{eq-eqb}
+use Rattle.std.proofs.Common.{◌≡◌, refl, sym, ap, subst, ◌∙◌, Bool, true, false, not, List, ℕ, ◌+◌, ◌^◌, ◌<◌, mod-eq_of_lt, arith, length, eq-eqb, Option, Some, None}
 use Rattle.pages.specs.Bytes.{cell, row, big}
 use Rattle.pages.specs.Memory.{Memory}
 use Rattle.pages.proofs.Laws.Places.{big_bound}
 use Rattle.pages.proofs.Laws.Meaning.{byte_small}
-use Rattle.interpreter.specs.declared.effect.Touch.{Touch}
-use Rattle.interpreter.specs.declared.effect.Touch.TheVariants.{Nothing, Eight}
 use Rattle.interpreter.specs.declared.state.State.{State}
 use Rattle.interpreter.specs.Machine.{Machine, cpu_of, state_of, bad}
 use Rattle.interpreter.specs.Plan.{eight_at}
@@ -31,7 +22,7 @@ use Rattle.interpreter.proofs.Laws.Refine.{refines_unless}
 use Rattle.interpreter.proofs.Laws.Runs.{step_works}
 use Rattle.interpreter.proofs.Laws.Sizes.{step_bytes, step_fits}
 use Rattle.interpreter.proofs.Laws.Narrow.{touched_aligned}
-use Rattle.checker.specs.declared.verdict.Verdict.TheVariants.{Accepted}
+use Rattle.checker.specs.Verdicts.{Accepted}
 use Rattle.checker.specs.Records.{old_in, new_in, word_in, address_in, old_eight, new_eight, touch_in}
 use Rattle.checker.specs.Check.{wrong_length, malformed, exited_in, wide_in, placed, check_def}
 use Rattle.checker.specs.Statement.{Bytes, Form, Has, Holds, step_from, Gives}
@@ -40,25 +31,25 @@ use Rattle.checker.proofs.Laws.Theorem.{unrefused_not, has_eight, steps_accepted
 -- ---- the touched eight bytes in a record
 
 module _ (s n : State) (w : ℕ) where
-  abbrev filled : Touch → Memory → Memory → List ℕ
+  abbrev filled : Option ℕ → Memory → Memory → List ℕ
   filled t k l = record_of s n w t (eight_at k t) (eight_at l t)
 
-  old_shown : (t : Touch) (k l : Memory) → Bytes k → old_eight (filled t k l) ≡ eight_at k t
+  old_shown : (t : Option ℕ) (k l : Memory) → Bytes k → old_eight (filled t k l) ≡ eight_at k t
   unfolding old_eight
-  old_shown Nothing k l b = record_touch s n w Nothing 0 0 8 ∙ touch_none 0 0 8 (omega arith)
-  old_shown (Eight a) k l b = record_touch s n w (Eight a) (big 8 k a) (big 8 l a) 8 ∙ touch_old a (big 8 k a) (big 8 l a) ∙ mod-eq_of_lt (big_lt 8 k a b)
+  old_shown None k l b = record_touch s n w None 0 0 8 ∙ touch_none 0 0 8 (omega arith)
+  old_shown (Some a) k l b = record_touch s n w (Some a) (big 8 k a) (big 8 l a) 8 ∙ touch_old a (big 8 k a) (big 8 l a) ∙ mod-eq_of_lt (big_lt 8 k a b)
 
-  new_shown : (t : Touch) (k l : Memory) → Bytes l → new_eight (filled t k l) ≡ eight_at l t
+  new_shown : (t : Option ℕ) (k l : Memory) → Bytes l → new_eight (filled t k l) ≡ eight_at l t
   unfolding new_eight
-  new_shown Nothing k l b = record_touch s n w Nothing 0 0 16 ∙ touch_none 0 0 16 (omega arith)
-  new_shown (Eight a) k l b = record_touch s n w (Eight a) (big 8 k a) (big 8 l a) 16 ∙ touch_new a (big 8 k a) (big 8 l a) ∙ mod-eq_of_lt (big_lt 8 l a b)
+  new_shown None k l b = record_touch s n w None 0 0 16 ∙ touch_none 0 0 16 (omega arith)
+  new_shown (Some a) k l b = record_touch s n w (Some a) (big 8 k a) (big 8 l a) 16 ∙ touch_new a (big 8 k a) (big 8 l a) ∙ mod-eq_of_lt (big_lt 8 l a b)
 
-  place_shown : (t : Touch) (k l : Memory) → Bytes k → Bytes l → ((a : ℕ) → t ≡ Eight a → a < 2 ^ 64) → placed (filled t k l) t ≡ true
+  place_shown : (t : Option ℕ) (k l : Memory) → Bytes k → Bytes l → ((a : ℕ) → t ≡ Some a → a < 2 ^ 64) → placed (filled t k l) t ≡ true
   unfolding address_in
-  place_shown Nothing k l b c h =
-      rw (record_touch s n w Nothing 0 0 0 ∙ touch_none 0 0 0 (omega arith), old_shown Nothing k l b, new_shown Nothing k l c)
-  place_shown (Eight a) k l b c h =
-      eq-eqb _ _ (record_touch s n w (Eight a) (big 8 k a) (big 8 l a) 0 ∙ touch_address a (big 8 k a) (big 8 l a) ∙ mod-eq_of_lt (h a refl))
+  place_shown None k l b c h =
+      rw (record_touch s n w None 0 0 0 ∙ touch_none 0 0 0 (omega arith), old_shown None k l b, new_shown None k l c)
+  place_shown (Some a) k l b c h =
+      eq-eqb _ _ (record_touch s n w (Some a) (big 8 k a) (big 8 l a) 0 ∙ touch_address a (big 8 k a) (big 8 l a) ∙ mod-eq_of_lt (h a refl))
 
 -- ---- the record of a step
 
@@ -122,7 +113,7 @@ module _ (x d : List ℕ) (m : Machine) (pages : Bytes (cell m.pages)) (typed : 
   unfolding touch_in cpu_of state_of
   touch_is = rw (old_is, word_is)
 
-  address_small : (a : ℕ) → touch_at m ≡ Eight a → a < 2 ^ 64
+  address_small : (a : ℕ) → touch_at m ≡ Some a → a < 2 ^ 64
   unfolding state_of
   address_small a e = (touched_aligned m.cpu m.regs (word_at m) a typed.values e).1
 

@@ -1,16 +1,9 @@
 -- The checker's answer is the first number in document 01's order whose condition holds.
-use mathlib.Core.Path.{◌≡◌, refl, sym, ap, ◌∙◌}
-use mathlib.Core.Bool.{Bool, true, false, cond}
-use mathlib.Core.List.{List, [], ◌∷◌}
-use mathlib.Core.Logic.{◌↔◌}
-use Prim.Native.Nat.{ℕ, ◌+◌, ◌≤◌, ◌<◌}
-use native.Mathlib.Decide.{dec_lt}
-use native.Mathlib.Omega.{arith}
-use lib.Dec.{eqb}
-use lib.ListN.{length}
+use Rattle.std.proofs.Common.{◌≡◌, refl, sym, ap, ◌∙◌, Bool, true, false, cond, List, [], ◌∷◌, ◌↔◌, ℕ, ◌+◌, ◌≤◌, ◌<◌, arith, eqb, length}
+use Rattle.std.proofs.Math.Decide.{dec_lt}
 use Rattle.checker.specs.declared.verdict.Fault.{Fault}
 use Rattle.checker.specs.declared.verdict.Fault.TheVariants.{Length, Form, AlreadyExited, StepRefused, WideStep, Touch, Result}
-use Rattle.checker.specs.declared.verdict.Verdict.TheVariants.{Refused}
+use Rattle.checker.specs.Verdicts.{Refused}
 use Rattle.checker.specs.Verdicts.{fault_number}
 use Rattle.checker.specs.Check.{applies, first_fault, order, check_def}
 use Rattle.checker.proofs.Laws.Same.{refused_not}

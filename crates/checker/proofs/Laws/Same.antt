@@ -1,13 +1,9 @@
 -- Two states that are the same in every field are one.
-use mathlib.Core.Path.{◌≡◌, refl, sym, ap, ◌∙◌}
-use mathlib.Core.Bool.{Bool, true, false, not, beq}
-use mathlib.Core.List.{List}
-use Prim.Native.Nat.{ℕ, zero, suc, ◌+◌, ◌≤◌, ◌<◌}
-use native.Mathlib.Nat.{zero-add}
-use native.Mathlib.Omega.{arith}
-use native.Mathlib.Decide.{dec_lt}
-use lib.ListN.{length}
-use borrow.Author.Tests.{eq-eqb, eqb-true}
+use Rattle.std.proofs.Common.{◌≡◌, refl, sym, ap, ◌∙◌, Bool, true, false, not, List, ℕ, zero, suc, ◌+◌, ◌≤◌, ◌<◌, zero-add, arith, length, eq-eqb, eqb-true, ◌&&◌, eqb}
+use Rattle.std.proofs.Math.Bool.{beq}
+use Rattle.std.proofs.Math.Decide.{dec_lt}
+use Rattle.std.specs.Str.{bytes_eq}
+use Rattle.std.proofs.lemmas.Slice.Eq.{bytes_eq-Decides}
 use Rattle.pages.specs.Bytes.{cell}
 use Rattle.pages.proofs.Laws.Runs.{row_ext}
 use Rattle.pages.proofs.Laws.Places.{row_whole}
@@ -16,10 +12,10 @@ use Rattle.interpreter.specs.declared.state.State.{State}
 use Rattle.interpreter.specs.Machine.{reg, cpu_of, state_of}
 use Rattle.interpreter.specs.Inputs.{same}
 use Rattle.interpreter.proofs.Laws.Tests.{no_true, both, on, off}
-use Rattle.interpreter.proofs.Laws.Inputs.{same_more, same_not}
+use Rattle.interpreter.proofs.Laws.Inputs.{same_self, same_list}
 use Rattle.interpreter.proofs.Laws.Layout.{state_parts}
 use Rattle.checker.specs.declared.verdict.Fault.{Fault}
-use Rattle.checker.specs.declared.verdict.Verdict.TheVariants.{Accepted, Refused}
+use Rattle.checker.specs.Verdicts.{Accepted, Refused}
 use Rattle.checker.specs.Check.{same_numbers, same_state}
 
 -- ---- tests
@@ -37,35 +33,6 @@ beq_in false = refl
 -- the two verdicts differ
 pub refused_not : {A : Type 0} {f : Fault} → Refused f ≡ Accepted → A
 refused_not e = let z : ◌≡◌ {A = ℕ} 0 1 = cc in absurd (omega arith)
-
--- ---- lists of 32
-
-module _ (f g : ℕ → ℕ) where
-  same_out : (n : ℕ) → same n f 0 g 0 ≡ true → (i : ℕ) → i < n → f (0 + i) ≡ g (0 + i)
-  unfolding same
-  same_out zero e i h = absurd (omega arith)
-  same_out (suc n) e i h = let q = both e in go (dec_lt i n) (same_out n q.0 i) (eqb-true _ _ q.1)
-    where
-      go : Dec (i < n) → (i < n → f (0 + i) ≡ g (0 + i)) → f (0 + n) ≡ g (0 + n) → f (0 + i) ≡ g (0 + i)
-      go (yes l) p q = p l
-      go (no l) p q = let k : i ≡ n = omega arith in rw k q
-
-  same_in : (n : ℕ) → ((i : ℕ) → f i ≡ g i) → same n f 0 g 0 ≡ true
-  unfolding same
-  same_in zero h = refl
-  same_in (suc n) h = rw (same_in n h, eq-eqb _ _ (h (0 + n)))
-
-  pub same_next : (i : ℕ) → same i f 0 g 0 ≡ true → f i ≡ g i → same (i + 1) f 0 g 0 ≡ true
-  same_next i h e = same_more f 0 g 0 i h (rw zero-add e)
-
-  pub same_fails : (i : ℕ) → i < 32 → (f i ≡ g i → ⊥) → false ≡ same 32 f 0 g 0
-  same_fails i l d = sym (same_not f 0 g 0 32 i l (rw zero-add d))
-
-  pub same_all : (i : ℕ) → 32 ≤ i → i ≤ 32 → same i f 0 g 0 ≡ true → true ≡ same 32 f 0 g 0
-  same_all i l h e = let q : i ≡ 32 = omega arith in sym (rw q at e)
-
-list_is : (a b : List ℕ) → length a ≡ 32 → length b ≡ 32 → same 32 (cell a) 0 (cell b) 0 ≡ true → a ≡ b
-list_is a b p q e = sym (row_whole a 32 p) ∙ row_ext 32 (cell a) (cell b) 0 0 (same_out (cell a) (cell b) 32 e) ∙ row_whole b 32 q
 
 -- ---- states
 
@@ -100,26 +67,79 @@ state_is s t a b c d e =
     let n = both e in
     let k = both n.0 in
     sym (state_parts s)
-    ∙ ap (λ (r : List ℕ). state_of (cpu_of s) r s.key) (list_is s.regs t.regs a b k.0)
-    ∙ ap (λ (y : List ℕ). state_of (cpu_of s) t.regs y) (list_is s.key t.key c d k.1)
+    ∙ ap (λ (r : List ℕ). state_of (cpu_of s) r s.key) (same_list 32 s.regs t.regs a b k.0)
+    ∙ ap (λ (y : List ℕ). state_of (cpu_of s) t.regs y) (same_list 32 s.key t.key c d k.1)
     ∙ ap (λ (m : Cpu). state_of m t.regs t.key) (numbers_is (cpu_of s) (cpu_of t) n.1)
     ∙ state_parts t
 
 pub is_state : (s : State) → same_state s s ≡ true
 unfolding same_state
-is_state s = rw (same_in (reg s.regs) (reg s.regs) 32 (λ i. refl), same_in (cell s.key) (cell s.key) 32 (λ i. refl), is_numbers (cpu_of s))
+is_state s = rw (same_self 32 (reg s.regs), same_self 32 (cell s.key), is_numbers (cpu_of s))
 
--- the code's tests, in its order
-module _ (c : Cpu) (l k : List ℕ) (n : State) {a : Bool} (ya : a ≡ same 32 (cell l) 0 (cell n.regs) 0) where
-  pub state_registers : not a ≡ true → false ≡ same_state (state_of c l k) n
-  unfolding same_state state_of
-  state_registers h = rw (← ya, off a h)
+pub not_state : (s t : State) → length s.regs ≡ 32 → length t.regs ≡ 32 → length s.key ≡ 32 → length t.key ≡ 32 → (s ≡ t → ⊥) → same_state s t ≡ false
+not_state s t a b c d h = go (same_state s t) refl
+  where
+    go : (q : Bool) → same_state s t ≡ q → q ≡ false
+    go true e = absurd (h (state_is s t a b c d e))
+    go false e = refl
 
-  module _ (ha : not a ≡ false) {b : Bool} (yb : b ≡ same 32 (cell k) 0 (cell n.key) 0) where
-    pub state_key : not b ≡ true → false ≡ same_state (state_of c l k) n
-    unfolding same_state state_of
-    state_key h = rw (← ya, on a ha, ← yb, off b h)
+-- what the derived test of two states compares
+abbrev tested : State → State → Bool
+tested s t =
+    bytes_eq s.regs t.regs
+    && (eqb s.pc t.pc
+    && (eqb s.next t.next
+    && (eqb s.hi t.hi
+    && (eqb s.lo t.lo
+    && (eqb s.heap t.heap
+    && (eqb s.step t.step
+    && (eqb s.offset t.offset
+    && (eqb s.hint t.hint
+    && (bytes_eq s.key t.key
+    && (beq s.exited t.exited
+    && (eqb s.code t.code
+    && eqb s.rules t.rules)))))))))))
 
-    pub state_numbers : not b ≡ false → {d : Cpu} {v : Bool} → d ≡ cpu_of n → v ≡ same_numbers c d → v ≡ same_state (state_of c l k) n
-    unfolding same_state state_of cpu_of
-    state_numbers h y z = z ∙ rw (y, ← ya, on a ha, ← yb, on b h)
+module _ (s t : State) {b : Bool} (e : b ≡ not (tested s t)) where
+  pub tested_same : b ≡ false → s ≡ t
+  unfolding cpu_of
+  tested_same f =
+      let a = both (on (tested s t) (sym e ∙ f)) in
+      let c = both a.1 in
+      let d = both c.1 in
+      let g = both d.1 in
+      let h = both g.1 in
+      let i = both h.1 in
+      let j = both i.1 in
+      let k = both j.1 in
+      let l = both k.1 in
+      let m = both l.1 in
+      let n = both m.1 in
+      let o = both n.1 in
+      sym (state_parts s)
+      ∙ ap (λ (r : List ℕ). state_of (cpu_of s) r s.key) ((bytes_eq-Decides s.regs t.regs).0 a.0)
+      ∙ ap (λ (y : List ℕ). state_of (cpu_of s) t.regs y) ((bytes_eq-Decides s.key t.key).0 m.0)
+      ∙ ap (λ (z : Cpu). state_of z t.regs t.key)
+      (numbers_are (eqb-true _ _ c.0) (eqb-true _ _ d.0) (eqb-true _ _ g.0) (eqb-true _ _ h.0) (eqb-true _ _ i.0) (eqb-true _ _ j.0) (eqb-true _ _ k.0) (eqb-true _ _ l.0) (beq_out _ _ n.0) (eqb-true _ _ o.0) (eqb-true _ _ o.1))
+      ∙ state_parts t
+
+  pub tested_not : b ≡ true → s ≡ t → ⊥
+  tested_not f q = no_true (sym f ∙ e ∙ ap (λ (x : State). not (tested x t)) q ∙ ap not itself)
+    where
+      itself : tested t t ≡ true
+      itself =
+          rw (
+            (bytes_eq-Decides t.regs t.regs).1 refl,
+            (bytes_eq-Decides t.key t.key).1 refl,
+            eq-eqb t.pc _ refl,
+            eq-eqb t.next _ refl,
+            eq-eqb t.hi _ refl,
+            eq-eqb t.lo _ refl,
+            eq-eqb t.heap _ refl,
+            eq-eqb t.step _ refl,
+            eq-eqb t.offset _ refl,
+            eq-eqb t.hint _ refl,
+            beq_in t.exited,
+            eq-eqb t.code _ refl,
+            eq-eqb t.rules _ refl,
+          )

@@ -1,14 +1,7 @@
 -- The theorems of the checker (specs/Statement.antt).
 use Rattle.std.specs.Prelude.{Ok, Err}
-use mathlib.Core.Path.{◌≡◌, refl, sym, ap, subst, ◌∙◌}
-use mathlib.Core.Bool.{Bool, true, false, ◌&&◌, cond}
-use mathlib.Core.List.{List, []}
-use mathlib.Core.Logic.{◌↔◌}
-use Prim.Native.Nat.{ℕ, ◌+◌, ◌-◌, ◌*◌, ◌/◌, ◌%◌, ◌^◌, ◌≤◌, ◌<◌}
-use native.Mathlib.Omega.{arith}
-use lib.Dec.{eqb, lit<}
-use lib.ListN.{length}
-use borrow.Author.Tests.{eq-eqb, eqb-true, eqb-false}
+use Rattle.std.proofs.Common.{◌≡◌, refl, sym, ap, subst, ◌∙◌, Bool, true, false, ◌&&◌, cond, List, [], ◌↔◌, ℕ, ◌+◌, ◌-◌, ◌*◌, ◌/◌, ◌%◌, ◌^◌, ◌≤◌, ◌<◌, arith, eqb, lit<, length, eq-eqb, eqb-true, Option, Some, None}
+use Rattle.std.proofs.lemmas.Bool.{eqb-false}
 use Rattle.pages.specs.Bytes.{cell, row, big, bytes_of}
 use Rattle.pages.specs.Memory.{Memory, write}
 use Rattle.pages.proofs.Laws.Runs.{length_row, cell_row, row_bytes}
@@ -18,28 +11,25 @@ use Rattle.pages.proofs.Laws.Meaning.{write_among, write_lt, write_outside}
 use Rattle.interpreter.specs.Effects.{Effect}
 use Rattle.interpreter.specs.declared.effect.Stop.TheVariants.{Refused as RefusedBy, Call as CallBy}
 use Rattle.interpreter.specs.declared.effect.Refusal.{Refusal}
-use Rattle.interpreter.specs.declared.effect.Touch.{Touch}
-use Rattle.interpreter.specs.declared.effect.Touch.TheVariants.{Nothing, Eight}
 use Rattle.interpreter.specs.declared.step.Answer.{Answer}
 use Rattle.interpreter.specs.declared.step.Answer.TheVariants.{Refused as RefusedStep}
 use Rattle.interpreter.specs.Machine.{cpu_of, state_of, counted}
 use Rattle.interpreter.specs.Plan.{Deed, does, eight_at, ins_of, touch_of, executing}
-use Rattle.interpreter.specs.Layout.{decode_at}
+use Rattle.interpreter.specs.Layout.{decode_at, formed_at}
 use Rattle.interpreter.specs.Ideal.{Ideal, ideal, ideal_view, counting, Outcome, follow, remember}
 use Rattle.interpreter.specs.Runs.{is_refused}
 use Rattle.interpreter.specs.Shown.{shown_at, Outside, effect_shown}
 use Rattle.interpreter.proofs.Laws.Tests.{no_true, both, on}
 use Rattle.interpreter.proofs.Laws.Bytes.{big_lt}
-use Rattle.interpreter.proofs.Laws.Codec.{length_numbers}
-use Rattle.interpreter.proofs.Laws.Recorder.{touched_even}
+use Rattle.interpreter.proofs.Laws.Codec.{length_numbers, fits_decoded, formed_out}
 use Rattle.interpreter.proofs.Laws.Shown.{write_back, pc_aligned}
-use Rattle.interpreter.proofs.Laws.Narrow.{Narrow, Found, found, shown_same, shown_stops, ideal_fetches, remember_outside, remember_same}
+use Rattle.interpreter.proofs.Laws.Narrow.{Narrow, Found, found, shown_same, shown_stops, ideal_fetches, remember_outside, remember_same, touched_aligned}
 use Rattle.checker.specs.declared.verdict.Fault.{Fault}
 use Rattle.checker.specs.declared.verdict.Fault.TheVariants.{Length, Form as FormFault, AlreadyExited, StepRefused, WideStep, Touch as TouchFault, Result}
-use Rattle.checker.specs.declared.verdict.Verdict.{Verdict}
-use Rattle.checker.specs.declared.verdict.Verdict.TheVariants.{Accepted, Refused}
+use Rattle.checker.specs.Verdicts.{Verdict}
+use Rattle.checker.specs.Verdicts.{Accepted, Refused}
 use Rattle.checker.specs.Records.{old_in, new_in, word_in, address_in, old_eight, new_eight, touch_in, memory_in, effect_in, plan_in}
-use Rattle.checker.specs.Check.{exited_in, refuses, refused_in, wide_in, placed, agrees, misplaced, same_state, gives, differs, applies, first_fault, check_def}
+use Rattle.checker.specs.Check.{malformed, exited_in, refuses, refused_in, wide_in, placed, agrees, misplaced, same_state, gives, differs, applies, first_fault, check_def}
 use Rattle.checker.specs.Statement.{Bytes, Form, Has, Holds, step_from, Gives}
 use Rattle.checker.proofs.Laws.Same.{refused_not, state_is, is_state}
 use Rattle.checker.proofs.Laws.Judged.{goes_on, narrow_found}
@@ -95,6 +85,10 @@ accepted_none r = (λ e. forth (passed r e), back)
 
 -- the conditions by name
 module _ (r : List ℕ) (p : Passed (applies r)) where
+  is_formed : formed_at r 0 ≡ true
+  unfolding applies malformed
+  is_formed = (both (both (on _ p.form)).0).0
+
   is_running : exited_in r ≡ false
   unfolding applies
   is_running = p.running
@@ -119,10 +113,10 @@ pub unrefused_not : (a : Answer) (f : Refusal) → is_refused a ≡ false → a 
 unrefused_not a f e z = no_true (sym (ap is_refused z) ∙ e)
 
 -- the memory shows what the record shows
-shows : (r : List ℕ) (m : Memory) (t : Touch) → Bytes m → Has m t (old_eight r) → eight_at m t ≡ eight_at (shown_at t (old_eight r)) t
+shows : (r : List ℕ) (m : Memory) (t : Option ℕ) → Bytes m → Has m t (old_eight r) → eight_at m t ≡ eight_at (shown_at t (old_eight r)) t
 unfolding shown_at
-shows r m Nothing b h = refl
-shows r m (Eight a) b h = h ∙ sym (write_back (λ c. 0) a (old_eight r) (subst (λ v. v < 2 ^ 64) h (big_lt 8 m a b)))
+shows r m None b h = refl
+shows r m (Some a) b h = h ∙ sym (write_back (λ c. 0) a (old_eight r) (subst (λ v. v < 2 ^ 64) h (big_lt 8 m a b)))
 
 module _ (r : List ℕ) (m : Memory) (h : Holds r m) where
   shown_as : eight_at m (touch_in r) ≡ eight_at (memory_in r) (touch_in r)
@@ -189,9 +183,9 @@ new_key : (r : List ℕ) → length (new_in r).key ≡ 32
 unfolding new_in decode_at
 new_key r = length_row (cell r) 680 32
 
-pub has_eight : (m : Memory) (t : Touch) (v : ℕ) → eight_at m t ≡ v → Has m t v
-has_eight m Nothing v e = tt
-has_eight m (Eight a) v e = e
+pub has_eight : (m : Memory) (t : Option ℕ) (v : ℕ) → eight_at m t ≡ v → Has m t v
+has_eight m None v e = tt
+has_eight m (Some a) v e = e
 
 module _ (r : List ℕ) (m : Memory) (h : Holds r m) (p : Passed (applies r)) (x d g : List ℕ) where
   gave : (w : Deed) → plan_in r ≡ does w → (same_state (state_of w.cpu w.regs w.key) (new_in r) ≡ true) × (eqb (eight_at (remember (memory_in r) w.store) (touch_in r)) (new_eight r) ≡ true)
@@ -226,10 +220,10 @@ byte_same f g a b p q e j l =
     ∙ ap (λ (s : List ℕ). cell s j) (sym (bytes_big 8 f a (λ k i. p (a + k))) ∙ ap (bytes_of 8) e ∙ bytes_big 8 g b (λ k i. q (b + k)))
     ∙ cell_row g b 8 j l
 
-agreed : (r : List ℕ) (m : Memory) (t : Touch) (pc : ℕ) → Bytes (cell r) → Bytes m → pc % 4 ≡ 0 → big 4 m pc ≡ word_in r → Has m t (old_eight r) → agrees r pc t ≡ true
+agreed : (r : List ℕ) (m : Memory) (t : Option ℕ) (pc : ℕ) → Bytes (cell r) → Bytes m → pc % 4 ≡ 0 → big 4 m pc ≡ word_in r → Has m t (old_eight r) → agrees r pc t ≡ true
 unfolding old_eight
-agreed r m Nothing pc b c z i h = refl
-agreed r m (Eight a) pc b c z i h = go (eqb (pc / 8 * 8) a) refl
+agreed r m None pc b c z i h = refl
+agreed r m (Some a) pc b c z i h = go (eqb (pc / 8 * 8) a) refl
   where
     there : pc / 8 * 8 ≡ a → (k : ℕ) → k < 4 → cell r (736 + pc % 8 + k) ≡ m (pc + k)
     there q k l =
@@ -247,9 +241,9 @@ unfolding refused_in effect_in effect_shown ins_of counted cpu_of
 pc_even r e =
     pc_aligned (ins_of (counted (cpu_of (old_in r))) (old_in r).regs (word_in r) (eight_at (memory_in r) (touch_of (old_in r).regs (word_in r)))) refl (goes_on (effect_in r) e)
 
-new_zero : (r : List ℕ) (k : Memory) (t : Touch) → placed r t ≡ true → Has k t (new_eight r) → eight_at k t ≡ new_eight r
-new_zero r k Nothing p h = sym (eqb-true (new_eight r) 0 (both {a = eqb (address_in r) 0 && eqb (old_eight r) 0} {b = eqb (new_eight r) 0} p).1)
-new_zero r k (Eight a) p h = h
+new_zero : (r : List ℕ) (k : Memory) (t : Option ℕ) → placed r t ≡ true → Has k t (new_eight r) → eight_at k t ≡ new_eight r
+new_zero r k None p h = sym (eqb-true (new_eight r) 0 (both {a = eqb (address_in r) 0 && eqb (old_eight r) 0} {b = eqb (new_eight r) 0} p).1)
+new_zero r k (Some a) p h = h
 
 module _ (r : List ℕ) (b : Bytes (cell r)) (f : Form r) (m : Memory) (h : Holds r m) (x d g : List ℕ) (gs : Gives r m x d g) where
   stops_not : (n : Refusal) → effect_in r ≡ Err (RefusedBy n) → ⊥
@@ -312,29 +306,29 @@ module _ (r : List ℕ) (b : Bytes (cell r)) where
   abbrev alone : Memory
   alone = write (λ c. 0) (old_in r).pc (row (cell r) 720 4)
 
-  abbrev witness : Touch → Memory
-  witness Nothing = alone
-  witness (Eight a) = write alone a (row (cell r) 736 8)
+  abbrev witness : Option ℕ → Memory
+  witness None = alone
+  witness (Some a) = write alone a (row (cell r) 736 8)
 
   alone_bytes : Bytes alone
   alone_bytes = write_lt (λ c. 0) (old_in r).pc (row (cell r) 720 4) (λ c. lit< tt) (row_bytes (cell r) 720 4 b)
 
-  witness_bytes : (t : Touch) → Bytes (witness t)
-  witness_bytes Nothing = alone_bytes
-  witness_bytes (Eight a) = write_lt alone a (row (cell r) 736 8) alone_bytes (row_bytes (cell r) 736 8 b)
+  witness_bytes : (t : Option ℕ) → Bytes (witness t)
+  witness_bytes None = alone_bytes
+  witness_bytes (Some a) = write_lt alone a (row (cell r) 736 8) alone_bytes (row_bytes (cell r) 736 8 b)
 
-  witness_has : (t : Touch) → Has (witness t) t (old_eight r)
+  witness_has : (t : Option ℕ) → Has (witness t) t (old_eight r)
   unfolding old_eight
-  witness_has Nothing = tt
-  witness_has (Eight a) = written_number alone (cell r) a 736 8
+  witness_has None = tt
+  witness_has (Some a) = written_number alone (cell r) a 736 8
 
   alone_fetches : big 4 alone (old_in r).pc ≡ word_in r
   unfolding word_in
   alone_fetches = written_number (λ c. 0) (cell r) (old_in r).pc 720 4
 
-  witness_fetches : (t : Touch) → ((a : ℕ) → t ≡ Eight a → a % 8 ≡ 0) → (old_in r).pc % 4 ≡ 0 → agrees r (old_in r).pc t ≡ true → big 4 (witness t) (old_in r).pc ≡ word_in r
-  witness_fetches Nothing e z q = alone_fetches
-  witness_fetches (Eight a) e z q = go (eqb ((old_in r).pc / 8 * 8) a) refl q
+  witness_fetches : (t : Option ℕ) → ((a : ℕ) → t ≡ Some a → a % 8 ≡ 0) → (old_in r).pc % 4 ≡ 0 → agrees r (old_in r).pc t ≡ true → big 4 (witness t) (old_in r).pc ≡ word_in r
+  witness_fetches None e z q = alone_fetches
+  witness_fetches (Some a) e z q = go (eqb ((old_in r).pc / 8 * 8) a) refl q
     where
       even : a % 8 ≡ 0
       even = e a refl
@@ -353,15 +347,15 @@ module _ (r : List ℕ) (b : Bytes (cell r)) where
           (λ j l. write_outside alone a (row (cell r) 736 8) 8 (length_row (cell r) 736 8) ((old_in r).pc + j) (apart (old_in r).pc a j even z (eqb-false _ _ i) l))
           ∙ alone_fetches
 
-  touch_even : (a : ℕ) → touch_in r ≡ Eight a → a % 8 ≡ 0
-  unfolding touch_in
-  touch_even a e = touched_even (cpu_of (old_in r)) (old_in r).regs (word_in r) refl a e
+  touch_even : formed_at r 0 ≡ true → (a : ℕ) → touch_in r ≡ Some a → a % 8 ≡ 0
+  unfolding touch_in old_in
+  touch_even f a e = (touched_aligned (cpu_of (decode_at r 0)) (decode_at r 0).regs (word_in r) a (fits_decoded r b (formed_out r 0 f)).typed.values e).0
 
   witness_holds : Passed (applies r) → Holds r (witness (touch_in r))
   witness_holds p =
       record {
         bytes = witness_bytes (touch_in r);
-        instruction = witness_fetches (touch_in r) touch_even (pc_even r (is_unrefused r p)) (is_placed r p).1;
+        instruction = witness_fetches (touch_in r) (touch_even (is_formed r p)) (pc_even r (is_unrefused r p)) (is_placed r p).1;
         eight = witness_has (touch_in r);
       }
 

@@ -1,5 +1,5 @@
 -- A state's bytes and the state say the same: encode then decode, and decode then encode.
-use Rattle.std.proofs.Common.{◌≡◌, ℕ, zero, suc, ◌+◌, ◌-◌, ◌*◌, ◌%◌, ◌^◌, ◌<◌, ◌≤◌, Bool, true, false, cond, ◌&&◌, eqb, List, [], ◌∷◌, ◌++◌, length, sym, refl, ap, ◌∙◌, add-zero, mod-eq_of_lt, zero-add, arith, length-append, ltb-false, le-ltb, eq-eqb, eqb-true, le-leb, leb-true}
+use Rattle.std.proofs.Common.{◌≡◌, ℕ, zero, suc, ◌+◌, ◌-◌, ◌*◌, ◌%◌, ◌^◌, ◌<◌, ◌≤◌, Bool, true, false, cond, ◌&&◌, eqb, List, [], ◌∷◌, ◌++◌, length, sym, refl, ap, ◌∙◌, add-zero, mod-eq_of_lt, zero-add, arith, length-append, ltb-false, le-ltb, eq-eqb, eqb-true, le-leb, leb-true, Some, None}
 use native.Mathlib.Decide.{dec_lt}
 use lib.ListN.{get_or-eq_default}
 use Rattle.pages.specs.Bytes.{cell, row, zeros, big, bytes_of}
@@ -7,11 +7,10 @@ use Rattle.pages.proofs.Laws.Runs.{Bytes, length_row, cell_row, row_ext, row_byt
 use Rattle.pages.proofs.Laws.Numbers.{big_ext, big_none, big_bytes, bytes_bytes}
 use Rattle.pages.proofs.Laws.Places.{cell_left, cell_right, cell_past, big_left, big_past, bytes_big, big_bound, row_join, row_whole}
 use Rattle.interpreter.specs.Machine.{reg, cpu_of, largest_rules, hint_room, formless}
-use Rattle.interpreter.specs.Layout.{eights, flag, numbers_of, last_of, encode, eight, numbers, decode_at, formed_at, valid, malformed, decode_def, Fits}
+use Rattle.interpreter.specs.Layout.{eights, flag, numbers_of, last_of, encode, eight, numbers, decode_at, formed_at, decode_def, Fits}
 use Rattle.interpreter.specs.declared.state.State.{State}
 use Rattle.interpreter.specs.declared.state.Cpu.{Cpu}
-use Rattle.interpreter.specs.declared.layout.Decoded.{Decoded}
-use Rattle.interpreter.proofs.Laws.Tests.{no_true, both, neither, off}
+use Rattle.interpreter.proofs.Laws.Tests.{both, neither, off}
 use Rattle.interpreter.proofs.Laws.Layout.{length_eights, length_encode, numbers_is, formed_is}
 
 -- ---- where the bytes of four runs stand
@@ -145,7 +144,7 @@ module _ (s : State) (f : Fits s) where
           let e : 355 + k ≡ 352 + (3 + k) = omega arith in
           rw e (part_last s (3 + k) ∙ cell_past (flag s.exited ∷ s.code ∷ s.rules ∷ []) (zeros 5) 3 k refl ∙ cell_row (λ _. 0) 0 5 k h)
 
-  pub decode_encode : decode_def (encode s) ≡ valid s
+  pub decode_encode : decode_def (encode s) ≡ Some s
   unfolding decode_def
   decode_encode = rw (eq-eqb _ _ (length_encode s), formed_back, decoded_back)
 
@@ -166,20 +165,19 @@ formed_out b k e =
     let r = neither (off _ p.1) in
     record { exited = leb-true _ _ q.0; spare = eqb-true _ _ q.1; rules = ltb-false _ _ r.0; hint = ltb-false _ _ r.1 }
 
-valid_out : (t : Bool) (x s : State) → cond t (valid x) malformed ≡ valid s → (t ≡ true) × (x ≡ s)
-unfolding malformed
-valid_out true x s e = (refl, ap (λ (d : Decoded). d.state) e)
-valid_out false x s e = no_true (sym (ap (λ (d : Decoded). d.formed) e))
+some_out : (t : Bool) (x s : State) → cond t (Some x) None ≡ Some s → (t ≡ true) × (x ≡ s)
+some_out true x s e = (refl, (cc))
+some_out false x s e = ((cc), (cc))
 
 pub record Out (b : List ℕ) (s : State) : Type 0 where
   pub long : length b ≡ 360
   pub formed : Formed b 0
   pub state : decode_at b 0 ≡ s
 
-pub decode_out : (b : List ℕ) (s : State) → decode_def b ≡ valid s → Out b s
+pub decode_out : (b : List ℕ) (s : State) → decode_def b ≡ Some s → Out b s
 unfolding decode_def
 decode_out b s e =
-    let p = valid_out (eqb (length b) 360 && formed_at b 0) (decode_at b 0) s e in
+    let p = some_out (eqb (length b) 360 && formed_at b 0) (decode_at b 0) s e in
     let q = both p.0 in
     record { long = eqb-true _ _ q.0; formed = formed_out b 0 q.1; state = p.1 }
 
@@ -238,7 +236,7 @@ pub encoded_forth : (b : List ℕ) → Bytes b → length b ≡ 360 → Formed b
 encoded_forth b small e f =
     parts_forth b small f ∙ rw (← row_join (cell b) 0 256 64, ← row_join (cell b) 0 320 32, ← row_join (cell b) 0 352 8) (row_whole b 360 e)
 
-pub encode_decode : (b : List ℕ) → Bytes b → (s : State) → decode_def b ≡ valid s → encode s ≡ b
+pub encode_decode : (b : List ℕ) → Bytes b → (s : State) → decode_def b ≡ Some s → encode s ≡ b
 encode_decode b small s e =
     let o = decode_out b s e in
     ap encode (sym o.state) ∙ encoded_forth b small o.long o.formed

@@ -1,6 +1,6 @@
 -- What the step needs to know of the kernel: the register that it writes is one, when it calls, and that the touched address is a doubleword's.
 use Rattle.std.specs.Prelude.{Result, Ok, Err}
-use Rattle.std.proofs.Common.{◌≡◌, ℕ, ◌*◌, ◌/◌, ◌%◌, ◌<◌, Bool, true, false, cond, not, ◌&&◌, eqb, sym, refl, ap, ◌∙◌, mod-lt, arith, lit<, eq-eqb}
+use Rattle.std.proofs.Common.{◌≡◌, ℕ, ◌*◌, ◌/◌, ◌%◌, ◌<◌, Bool, true, false, cond, not, ◌&&◌, eqb, sym, refl, ap, ◌∙◌, mod-lt, arith, lit<, eq-eqb, Option, Some, None}
 use Rattle.interpreter.specs.Isa.{rt_of, rd_of, HiLo, MTHI, MTLO, MULT, MULTU, DMULT, DMULTU, DIV, DIVU, DDIV, DDIVU, Conditional, SC, SCD, Branch, BEQ, BNE, BLEZ, BGTZ, BLTZ, BGEZ, BGEZAL, Jump, J, JAL, JR, JALR, Other, MOVZ, MOVN, SYNC, SYSCALL, Instruction, alu, imm, hilo, load, store, conditional, branch, jump, other, reserved, reserved_branch}
 use Rattle.interpreter.specs.OpcodeMap.{decode}
 use Rattle.interpreter.specs.Effects.{changes, storing, going, to_register, Effect}
@@ -17,8 +17,6 @@ use Rattle.interpreter.specs.declared.effect.Stop.TheVariants.{Refused, Call}
 use Rattle.interpreter.specs.declared.effect.Refusal.{Refusal}
 use Rattle.interpreter.specs.declared.effect.Refusal.TheVariants.{PcMisaligned}
 use Rattle.interpreter.specs.Recording.{other_calls, calls}
-use Rattle.interpreter.specs.declared.effect.Touch.{Touch}
-use Rattle.interpreter.specs.declared.effect.Touch.TheVariants.{Nothing, Eight}
 
 -- ---- the register
 
@@ -182,9 +180,9 @@ calls_refused i h g z = sym (kernel_calls i h g) ∙ ap is_call z
 
 -- ---- the touched address
 
-abbrev pub touched_at : Touch → ℕ
-touched_at Nothing = 0
-touched_at (Eight a) = a
+abbrev pub touched_at : Option ℕ → ℕ
+touched_at None = 0
+touched_at (Some a) = a
 
 -- what holds of 0 and of an address holds of what an instruction there touches
 pub touching_all : (P : ℕ → Type 0) → P 0 → (n : Instruction) (a : ℕ) → P a → P (touched_at (touching n a))
@@ -201,6 +199,6 @@ touching_all P z (other x) a h = z
 touching_all P z reserved a h = z
 touching_all P z reserved_branch a h = z
 
-pub touch_even : (w b a : ℕ) → touch_def w b ≡ Eight a → a % 8 ≡ 0
+pub touch_even : (w b a : ℕ) → touch_def w b ≡ Some a → a % 8 ≡ 0
 unfolding touch_def
 touch_even w b a e = let q : a ≡ touched_at (touch_def w b) = ap touched_at (sym e) in rw q (touching_all (λ k. k % 8 ≡ 0) refl (decode w) (address_of w b / 8 * 8) (omega arith))

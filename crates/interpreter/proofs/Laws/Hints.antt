@@ -1,5 +1,5 @@
 -- Hints: the order of what is heard, and the bytes held with those appended behind them.
-use Rattle.std.proofs.Common.{◌≡◌, ℕ, ◌+◌, ◌-◌, ◌<◌, ◌≤◌, Bool, true, false, cond, not, ltb, leb, List, ◌++◌, length, take, drop, sym, refl, ap, ◌∙◌, zero-add, arith, length-append, length-drop, get_or-drop, take_all, take_at, ext_get_or, ltb-false, le-ltb, lt-ltb, leb-true}
+use Rattle.std.proofs.Common.{◌≡◌, ℕ, ◌+◌, ◌-◌, ◌<◌, ◌≤◌, Bool, true, false, cond, not, ltb, leb, List, ◌++◌, length, take, drop, sym, refl, ap, ◌∙◌, zero-add, arith, length-append, length-drop, get_or-drop, take_all, take_at, ext_get_or, ltb-false, le-ltb, lt-ltb, leb-true, Option, Some, None, Result, Ok, Err, min, IsErrAnd}
 use native.Mathlib.Decide.{dec_lt}
 use lib.Seq.{sets, sets-eq, length-sets}
 use Rattle.pages.specs.Bytes.{cell, row}
@@ -12,8 +12,6 @@ use Rattle.interpreter.specs.Machine.{room_of}
 use Rattle.interpreter.specs.Utf8.{utf8}
 use Rattle.interpreter.specs.Hints.{announced, text_of, heard}
 use Rattle.interpreter.specs.Parts.{joined, Listened, listened, listened_to, listening}
-use Rattle.interpreter.specs.declared.hint.Heard.{Heard}
-use Rattle.interpreter.specs.declared.hint.Heard.TheVariants.{Keep, HandOut, Refuse}
 use Rattle.pages.specs.Calls.{number_at, put_def, copy_def}
 use Rattle.pages.proofs.Laws.Places.{number_fits, put_fits, copy_fits, cell_left, cell_past}
 use Rattle.interpreter.proofs.Laws.Tests.{ltb_rest}
@@ -25,13 +23,9 @@ module _ (l : List ℕ) where
   unfolding room_of
   room_fits n h = (omega arith, omega arith)
 
-  pub room_own : length l < 65536 → length l ≡ room_of l
+  pub room_least : min 65536 (length l) ≡ room_of l
   unfolding room_of
-  room_own h = omega arith
-
-  pub room_most : 65536 ≤ length l → 65536 ≡ room_of l
-  unfolding room_of
-  room_most h = omega arith
+  room_least = omega arith
 
   -- more than the room, by a difference that does not wrap
   pub room_rest : (held count : ℕ) {g : ℕ} → g ≡ room_of l → held ≤ room_of l → ltb (g - held) count ≡ ltb (room_of l) (held + count)
@@ -49,18 +43,18 @@ text_valid t p q =
     ap utf8 (sym (take_all (length t - 4) (drop 4 t) l)) ∙ sym p ∙ q
 
 module _ (t : List ℕ) (fits : ℕ → Bool) where
-  pub heard_few : length t < 4 → Keep ≡ heard t fits
+  pub heard_few : length t < 4 → Ok None ≡ heard t fits
   unfolding heard
   heard_few h = rw (lt-ltb _ _ h)
 
   module _ (n : ℕ) (e : n ≡ announced t) (l : 4 ≤ length t) where
-    pub heard_short : length t - 4 < n → Refuse HintShort ≡ heard t fits
+    pub heard_short : length t - 4 < n → Err HintShort ≡ heard t fits
     unfolding heard
     heard_short h =
         let k : length t < 4 + announced t = omega arith in
         rw (le-ltb (length t) 4 l, lt-ltb _ _ k)
 
-    pub heard_long : n < length t - 4 → Keep ≡ heard t fits
+    pub heard_long : n < length t - 4 → Ok None ≡ heard t fits
     unfolding heard
     heard_long h =
         let k : 4 + announced t ≤ length t = omega arith in
@@ -68,14 +62,14 @@ module _ (t : List ℕ) (fits : ℕ → Bool) where
         rw (le-ltb (length t) 4 l, le-ltb _ _ k, lt-ltb _ _ j)
 
     module _ (p : n ≤ length t - 4) (q : length t - 4 ≤ n) where
-      pub heard_text : utf8 (text_of t) ≡ false → Refuse HintText ≡ heard t fits
+      pub heard_text : utf8 (text_of t) ≡ false → Err HintText ≡ heard t fits
       unfolding heard
       heard_text h =
           let k : 4 + announced t ≤ length t = omega arith in
           let j : length t ≤ 4 + announced t = omega arith in
           rw (le-ltb (length t) 4 l, le-ltb _ _ k, le-ltb _ _ j, h)
 
-      pub heard_full : utf8 (text_of t) ≡ true → fits n ≡ false → Refuse NoRoom ≡ heard t fits
+      pub heard_full : utf8 (text_of t) ≡ true → fits n ≡ false → Err NoRoom ≡ heard t fits
       unfolding heard
       heard_full h f =
           let k : 4 + announced t ≤ length t = omega arith in
@@ -83,22 +77,22 @@ module _ (t : List ℕ) (fits : ℕ → Bool) where
           let g : fits (announced t) ≡ false = ap fits (sym e) ∙ f in
           rw (le-ltb (length t) 4 l, le-ltb _ _ k, le-ltb _ _ j, h, g)
 
-      pub heard_out : utf8 (text_of t) ≡ true → fits n ≡ true → HandOut n ≡ heard t fits
+      pub heard_out : utf8 (text_of t) ≡ true → fits n ≡ true → Ok (Some n) ≡ heard t fits
       unfolding heard
       heard_out h f =
           let k : 4 + announced t ≤ length t = omega arith in
           let j : length t ≤ 4 + announced t = omega arith in
           let g : fits (announced t) ≡ true = ap fits (sym e) ∙ f in
-          rw (le-ltb (length t) 4 l, le-ltb _ _ k, le-ltb _ _ j, h, g) (ap HandOut e)
+          rw (le-ltb (length t) 4 l, le-ltb _ _ k, le-ltb _ _ j, h, g) (ap (λ (k : ℕ). Ok (Some k)) e)
 
   -- a hint that is handed out is all that is held but its length
-  pub out_whole : (n : ℕ) → heard t fits ≡ HandOut n → (4 + n ≡ length t) × (fits n ≡ true)
+  pub out_whole : (n : ℕ) → heard t fits ≡ Ok (Some n) → (4 + n ≡ length t) × (fits n ≡ true)
   unfolding heard
   out_whole n =
       go (ltb (length t) 4) (ltb (length t) (4 + announced t)) refl (ltb (4 + announced t) (length t)) refl (not (utf8 (text_of t))) (fits (announced t)) refl
     where
       go : (a b : Bool) → ltb (length t) (4 + announced t) ≡ b → (c : Bool) → ltb (4 + announced t) (length t) ≡ c → (d f : Bool) → fits (announced t) ≡ f
-          → cond a Keep (cond b (Refuse HintShort) (cond c Keep (cond d (Refuse HintText) (cond (not f) (Refuse NoRoom) (HandOut (announced t)))))) ≡ HandOut n
+          → cond a (Ok None) (cond b (Err HintShort) (cond c (Ok None) (cond d (Err HintText) (cond (not f) (Err NoRoom) (Ok (Some (announced t))))))) ≡ Ok (Some n)
           → (4 + n ≡ length t) × (fits n ≡ true)
       go true b p c q d f r e = let z : ◌≡◌ {A = ℕ} 0 1 = cc in absurd (omega arith)
       go false true p c q d f r e = let z : ◌≡◌ {A = ℕ} 0 1 = cc in absurd (omega arith)
@@ -167,29 +161,41 @@ module _ (m : Memory) (h : List ℕ) (held address count : ℕ) where
 
 -- ---- the bytes laid down, by what was heard
 
-module _ (m : Memory) (h : List ℕ) (held address count : ℕ) (o : List ℕ) (r : Heard) where
-  pub lay_refuse : (e : Refusal) → r ≡ Refuse e → listened (Refuse e) h o ≡ listened_to h (sets h held (span m address count)) (joined m h held address count) o r
-  lay_refuse e q = rw q
+err_is : (x : Result (Option ℕ) Refusal) (e : Refusal) → IsErrAnd x (λ f. f ≡ e) → x ≡ Err e
+err_is (Ok g) e s = absurd s
+err_is (Err f) e s = ap (λ (k : Refusal). Err k) s
 
-  pub lay_keep : (a : List ℕ) → held + count ≤ length h → r ≡ Keep → a ≡ put_def h held (span m address count)
-      → listened Keep a o ≡ listened_to h (sets h held (span m address count)) (joined m h held address count) o r
-  lay_keep a l q p = rw (q, p ∙ put_fits h held (span m address count) (rw length_span l))
+module _ (m : Memory) (h : List ℕ) (held address count : ℕ) (o : List ℕ) where
+  abbrev judged : Result (Option ℕ) Refusal
+  judged = heard (joined m h held address count) (λ k. leb k (length o))
 
-  pub lay_out : (a b : List ℕ) (n : ℕ) → held + count ≤ length h → r ≡ heard (joined m h held address count) (λ k. leb k (length o)) → r ≡ HandOut n
-      → a ≡ put_def h held (span m address count)
-      → b ≡ copy_def a 4 o 0 n
-      → listened (HandOut n) a b ≡ listened_to h (sets h held (span m address count)) (joined m h held address count) o r
-  lay_out a b n l d q p s =
-      let t = joined m h held address count in
-      let A = sets h held (span m address count) in
-      let w = out_whole t (λ k. leb k (length o)) n (sym d ∙ q) in
-      let p2 : a ≡ A = p ∙ put_fits h held (span m address count) (rw length_span l) in
-      let la : length a ≡ length h = ap length p2 ∙ length-sets h held (span m address count) in
-      let u : 4 + n ≤ length a = omega (arith, length_joined m h held address count) in
-      let v : 0 + n ≤ length o = omega (arith, leb-true n (length o) w.1) in
-      let s2 : b ≡ sets o 0 (text_of t) =
-      s ∙ copy_fits a 4 o 0 n u v ∙ ap (λ (f : List ℕ). sets o 0 (row (cell f) 4 n)) p2 ∙ ap (sets o 0) (joined_text m h held address count l n w.0) in
-      rw (q, p2, s2)
+  abbrev laid : Result (Option ℕ) Refusal → Listened
+  laid = listened_to h (sets h held (span m address count)) (joined m h held address count) o
+
+  -- a refusal lays nothing down
+  pub lay_refuse : {r x : Result (Option ℕ) Refusal} {e : Refusal} → r ≡ judged → r ≡ Err e → IsErrAnd x (λ f. f ≡ e) → listened x h o ≡ laid judged
+  lay_refuse {x = x} {e = e} p q s = rw (err_is x e s, ← p, q)
+
+  pub lay_done : {r : Result (Option ℕ) Refusal} {g : Option ℕ} {x : Listened} → r ≡ judged → r ≡ Ok g → x ≡ laid (Ok g) → x ≡ laid judged
+  lay_done p q z = z ∙ ap laid (sym q ∙ p)
+
+  module _ {a : List ℕ} (l : held + count ≤ length h) (p : a ≡ put_def h held (span m address count)) where
+    put_as : a ≡ sets h held (span m address count)
+    put_as = p ∙ put_fits h held (span m address count) (rw length_span l)
+
+    pub lay_keep : {g : Option ℕ} → g ≡ None → listened (Ok g) a o ≡ laid (Ok g)
+    lay_keep q = rw (q, put_as)
+
+    pub lay_out : {g : Option ℕ} {b : List ℕ} {n : ℕ} → Ok g ≡ judged → g ≡ Some n → b ≡ copy_def a 4 o 0 n → listened (Ok g) a b ≡ laid (Ok g)
+    lay_out {b = b} {n = n} d q s =
+        let t = joined m h held address count in
+        let w = out_whole t (λ k. leb k (length o)) n (sym d ∙ ap (λ (k : Option ℕ). Ok k) q) in
+        let la : length a ≡ length h = ap length put_as ∙ length-sets h held (span m address count) in
+        let u : 4 + n ≤ length a = omega (arith, length_joined m h held address count) in
+        let v : 0 + n ≤ length o = omega (arith, leb-true n (length o) w.1) in
+        let s2 : b ≡ sets o 0 (text_of t) =
+        s ∙ copy_fits a 4 o 0 n u v ∙ ap (λ (f : List ℕ). sets o 0 (row (cell f) 4 n)) put_as ∙ ap (sets o 0) (joined_text m h held address count l n w.0) in
+        rw (q, put_as, s2)
 
 -- ---- the whole write
 
@@ -198,11 +204,11 @@ pub room_enough : (h : List ℕ) (held count : ℕ) {v : Bool} → v ≡ ltb (ro
 room_enough h held count p q = room_fits h (held + count) (ltb-false (room_of h) (held + count) (sym p ∙ q))
 
 module _ (m : Memory) (h : List ℕ) (held address count : ℕ) (o : List ℕ) {v : Bool} (p : v ≡ ltb (room_of h) (held + count)) where
-  pub listening_over : v ≡ true → listened (Refuse NoRoom) h o ≡ listening m h held address count o
+  pub listening_over : v ≡ true → listened (Err NoRoom) h o ≡ listening m h held address count o
   unfolding listening
   listening_over q = rw (sym p ∙ q)
 
-  pub listening_heard : v ≡ false → {r : Heard} {x : Listened} → r ≡ heard (joined m h held address count) (λ n. leb n (length o))
+  pub listening_heard : v ≡ false → {r : Result (Option ℕ) Refusal} {x : Listened} → r ≡ heard (joined m h held address count) (λ n. leb n (length o))
       → x ≡ listened_to h (sets h held (span m address count)) (joined m h held address count) o r → x ≡ listening m h held address count o
   unfolding listening
   listening_heard q e d = d ∙ rw (sym p ∙ q, e)

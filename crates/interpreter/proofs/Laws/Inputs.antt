@@ -1,64 +1,73 @@
 -- The input: records of the index, parts of the data, and the bytes that a read or a write moves.
-use Rattle.std.proofs.Common.{◌≡◌, ℕ, zero, suc, ◌+◌, ◌-◌, ◌*◌, ◌/◌, ◌%◌, ◌<◌, ◌≤◌, Bool, true, false, ◌&&◌, eqb, leb, List, [], ◌++◌, length, take, drop, set, sym, refl, ap, ◌∙◌, zero-add, add-one, arith, ext_get_or, eq-eqb, ne_eqb, leb-true}
+use Rattle.std.proofs.Common.{◌≡◌, ℕ, zero, suc, ◌+◌, ◌-◌, ◌*◌, ◌/◌, ◌%◌, ◌<◌, ◌≤◌, Bool, true, false, leb, List, [], ◌++◌, length, take, drop, sym, refl, ap, ◌∙◌, zero-add, add-one, arith, ext_get_or, eq-eqb, leb-true, Option, Some, None, eqb-true}
 use native.Mathlib.Nat.{sub-zero}
 use native.Mathlib.Decide.{dec_lt}
-use lib.Seq.{sets}
+use lib.Seq.{sets, length-sets}
 use borrow.Author.Tests.{lt-leb}
 use Rattle.pages.specs.Bytes.{cell, row, big, bytes_of}
-use Rattle.pages.proofs.Laws.Runs.{length_row, cell_row, sets_next}
+use Rattle.pages.proofs.Laws.Runs.{length_row, cell_row, row_ext, sets_below, sets_among}
 use Rattle.pages.proofs.Laws.Numbers.{length_bytes}
-use Rattle.pages.specs.Calls.{number_at, put_def}
-use Rattle.pages.proofs.Laws.Places.{number_fits, put_fits, cell_left, cell_past, sets_whole, length_part, cell_part, row_whole}
-use Rattle.interpreter.proofs.Laws.Tests.{leb_rest}
+use Rattle.std.proofs.Math.Nat.{div-div-eq-div-mul}
+use Rattle.std.specs.Int.{to_be_bytes, from_be_bytes, w64}
+use Rattle.std.specs.Str.{bytes_eq}
+use Rattle.std.proofs.lemmas.Slice.Eq.{bytes_eq-Decides}
+use Rattle.pages.specs.Calls.{number_at, copy_def}
+use Rattle.pages.proofs.Laws.Places.{number_fits, copy_fits, cell_left, cell_past, length_part, cell_part, row_whole}
+use Rattle.interpreter.proofs.Laws.Tests.{both, leb_rest}
+use Rattle.interpreter.proofs.Laws.Layout.{row_is}
 use Rattle.interpreter.specs.Inputs.{same, has_key, entry_at, first_entry, entry_of, inside, part_def, content, moving, moved, merged, shifted}
 use Rattle.interpreter.specs.declared.input.Entry.{Entry}
-use Rattle.interpreter.specs.declared.input.Entry.TheVariants.{At, Absent}
 
 -- ---- keys
 
-module _ (f : ℕ → ℕ) (a : ℕ) (g : ℕ → ℕ) (b : ℕ) where
-  pub same_none : same 0 f a g b ≡ true
+-- the same bytes one after the other: each is the same, and where the lists are as long they are one
+module _ (f g : ℕ → ℕ) where
+  same_out : (n a : ℕ) → same n f a g 0 ≡ true → (i : ℕ) → i < n → f (a + i) ≡ g (0 + i)
   unfolding same
-  same_none = refl
-
-  pub same_more : (n : ℕ) → same n f a g b ≡ true → f (a + n) ≡ g (b + n) → same (n + 1) f a g b ≡ true
-  unfolding same
-  same_more n h e = rw (add-one, h, eq-eqb _ _ e)
-
-  pub same_not : (n k : ℕ) → k < n → (f (a + k) ≡ g (b + k) → ⊥) → same n f a g b ≡ false
-  unfolding same
-  same_not zero k l d = absurd (omega arith)
-  same_not (suc n) k l d = go (dec_lt k n) (same_not n k)
+  same_out zero a e i h = absurd (omega arith)
+  same_out (suc n) a e i h = let q = both e in go (dec_lt i n) (same_out n a q.0 i) (eqb-true _ _ q.1)
     where
-      and_false : (t : Bool) → (t && false) ≡ false
-      and_false true = refl
-      and_false false = refl
+      go : Dec (i < n) → (i < n → f (a + i) ≡ g (0 + i)) → f (a + n) ≡ g (0 + n) → f (a + i) ≡ g (0 + i)
+      go (yes l) p q = p l
+      go (no l) p q = let k : i ≡ n = omega arith in rw k q
 
-      go : Dec (k < n) → (k < n → (f (a + k) ≡ g (b + k) → ⊥) → same n f a g b ≡ false) → (same n f a g b && eqb (f (a + n)) (g (b + n))) ≡ false
-      go (yes m) ih = rw (ih m d)
-      go (no m) ih =
-          let e : k ≡ n = omega arith in
-          rw (ne_eqb _ _ (rw e at d)) (and_false (same n f a g b))
+  same_in : (n a : ℕ) → ((i : ℕ) → i < n → f (a + i) ≡ g (0 + i)) → same n f a g 0 ≡ true
+  unfolding same
+  same_in zero a h = refl
+  same_in (suc n) a h = rw (same_in n a (λ i l. h i (omega arith)), eq-eqb _ _ (h n (omega arith)))
 
--- one byte of a key after the other
-module _ (x key : List ℕ) (i k : ℕ) where
-  pub key_more : same k (cell x) (i * 48) (cell key) 0 ≡ true → cell x (i * 48 + k) ≡ cell key k → same (k + 1) (cell x) (i * 48) (cell key) 0 ≡ true
-  key_more h e = same_more (cell x) (i * 48) (cell key) 0 k h (rw zero-add e)
+pub same_self : (n : ℕ) (f : ℕ → ℕ) → same n f 0 f 0 ≡ true
+same_self n f = same_in f f n 0 (λ i l. refl)
 
-  pub key_not : k < 32 → (cell x (i * 48 + k) ≡ cell key k → ⊥) → has_key x key i ≡ false
-  unfolding has_key
-  key_not l d = same_not (cell x) (i * 48) (cell key) 0 32 k l (rw zero-add d)
+pub same_list : (n : ℕ) (xs ys : List ℕ) → length xs ≡ n → length ys ≡ n → same n (cell xs) 0 (cell ys) 0 ≡ true → xs ≡ ys
+same_list n xs ys p q e = sym (row_whole xs n p) ∙ row_ext n (cell xs) (cell ys) 0 0 (same_out (cell xs) (cell ys) n 0 e) ∙ row_whole ys n q
 
-  pub key_all : 32 ≤ k → k ≤ 32 → same k (cell x) (i * 48) (cell key) 0 ≡ true → has_key x key i ≡ true
-  unfolding has_key
-  key_all l m h =
-      let e : k ≡ 32 = omega arith in
-      rw e at h
+by_sides : (p q : Bool) → (p ≡ true → q ≡ true) → (q ≡ true → p ≡ true) → p ≡ q
+by_sides true q f g = sym (f refl)
+by_sides false true f g = g refl
+by_sides false false f g = refl
+
+-- the test of two lists is the definition's
+pub equal_same : (n : ℕ) (xs ys : List ℕ) → length xs ≡ n → length ys ≡ n → bytes_eq xs ys ≡ same n (cell xs) 0 (cell ys) 0
+equal_same n xs ys p q =
+    by_sides _ _ (λ e. rw ((bytes_eq-Decides xs ys).0 e) (same_self n (cell ys))) (λ e. (bytes_eq-Decides xs ys).1 (same_list n xs ys p q e))
+
+-- at record i
+pub key_tested : (x key : List ℕ) (i m : ℕ) {b : Bool} → m ≡ 32 → i * 48 + 32 ≤ length x → length key ≡ 32 → b ≡ bytes_eq (take m (drop (i * 48) x)) key → b ≡ has_key x key i
+unfolding has_key
+key_tested x key i m d l k e =
+    let t : List ℕ = take 32 (drop (i * 48) x) in
+    let f : (j : ℕ) → j < 32 → cell t j ≡ cell x (i * 48 + j) = λ j h. cell_part x (i * 48) 32 l j h in
+    let u : same 32 (cell t) 0 (cell key) 0 ≡ same 32 (cell x) (i * 48) (cell key) 0 =
+    by_sides _ _
+    (λ z. same_in (cell x) (cell key) 32 (i * 48) (λ j h. sym (f j h) ∙ ap (cell t) (sym (zero-add j)) ∙ same_out (cell t) (cell key) 32 0 z j h))
+    (λ z. same_in (cell t) (cell key) 32 0 (λ j h. ap (cell t) (zero-add j) ∙ f j h ∙ same_out (cell x) (cell key) 32 (i * 48) z j h)) in
+    (rw d at e) ∙ equal_same 32 t key (length_part x (i * 48) 32 l) k ∙ u
 
 -- ---- the index, record by record
 
 module _ (x key : List ℕ) (n : ℕ) where
-  pub entry_here : (i : ℕ) → i < n → has_key x key i ≡ true → first_entry x key (n - i) i ≡ entry_at x i
+  pub entry_here : (i : ℕ) → i < n → has_key x key i ≡ true → first_entry x key (n - i) i ≡ Some (entry_at x i)
   unfolding first_entry
   entry_here i h e =
       let s : n - i ≡ suc (n - suc i) = omega arith in
@@ -70,7 +79,7 @@ module _ (x key : List ℕ) (n : ℕ) where
       let s : n - i ≡ suc (n - (i + 1)) = omega arith in
       rw (s, e, add-one)
 
-  pub entry_none : (i : ℕ) → n ≤ i → first_entry x key (n - i) i ≡ Absent
+  pub entry_none : (i : ℕ) → n ≤ i → first_entry x key (n - i) i ≡ None
   unfolding first_entry
   entry_none i h =
       let s : n - i ≡ 0 = omega arith in
@@ -81,8 +90,9 @@ unfolding entry_of
 entry_all x key = rw sub-zero
 
 -- what a whole record that has the key says
-pub entry_read : (x key : List ℕ) (i r s : ℕ) {e : Entry} → i < length x / 48 → has_key x key i ≡ true
-    → r ≡ number_at 8 x (i * 48 + 32) → s ≡ number_at 8 x (i * 48 + 32 + 8) → e ≡ first_entry x key (length x / 48 - i) i → At r s ≡ e
+pub entry_read : (x key : List ℕ) (i r s : ℕ) {e : Option Entry} → i < length x / 48 → has_key x key i ≡ true
+    → r ≡ number_at 8 x (i * 48 + 32) → s ≡ number_at 8 x (i * 48 + 32 + 8) → e ≡ first_entry x key (length x / 48 - i) i
+    → Some (record { start = r; length = s }) ≡ e
 entry_read x key i r s l h p q t =
     let m : i * 48 + 32 + 8 ≤ length x = omega arith in
     let k : i * 48 + 32 + 8 + 8 ≤ length x = omega arith in
@@ -148,46 +158,59 @@ module _ (key vs : List ℕ) (i : ℕ) where
   pub key_back : 32 ≤ i → cell vs (i - 32) ≡ cell (row (cell key) 0 32 ++ vs) i
   key_back h = back_cell (row (cell key) 0 32) vs 32 i (length_row (cell key) 0 32) h
 
-pub key_behind : (key b : List ℕ) (at count i : ℕ) → 32 ≤ i → i < 32 + count → cell b (at + (i - 32)) ≡ cell (row (cell key) 0 32 ++ row (cell b) at count) i
-key_behind key b at count i h l =
-    let k : i - 32 < count = omega arith in
-    sym (cell_row (cell b) at count (i - 32) k) ∙ key_back key (row (cell b) at count) i h
-
 -- ---- bytes put in
 
--- a number's bytes in as many places
-pub spread_is : (b : List ℕ) (x : ℕ) {d : List ℕ} → length b ≡ 8 → d ≡ put_def b 0 (bytes_of 8 x) → d ≡ bytes_of 8 x
-spread_is b x h p =
-    let l = length_bytes 8 x in
-    p ∙ put_fits b 0 (bytes_of 8 x) (omega arith) ∙ sets_whole b (bytes_of 8 x) (l ∙ sym h)
+-- a number's eight bytes, and the number in eight bytes
+pub bytes_eight : (v : ℕ) → to_be_bytes w64 v ≡ bytes_of 8 v
+unfolding bytes_of
+bytes_eight v = simp div-div-eq-div-mul
+
+big_eight : (s : List ℕ) → from_be_bytes w64 s ≡ big 8 (cell s) 0
+unfolding big
+big_eight s = rw zero-add (omega arith)
 
 pub row_start : (l : List ℕ) (i : ℕ) (f : ℕ → ℕ) (a : ℕ) → l ≡ sets l i (row f a 0)
 unfolding row
 row_start l i f a = refl
 
--- one byte more at the front
-pub front_next : (l d : List ℕ) (f : ℕ → ℕ) (a n v : ℕ) → d ≡ sets l 0 (row f a n) → v ≡ f (a + n) → set d n v ≡ sets l 0 (row f a (n + 1))
-front_next l d f a n v p q = rw zero-add at (sets_next l d 0 f a n v p q)
-
-pub merged_by : (b d : List ℕ) (x at offset count i r : ℕ) → count ≤ i → i ≤ count → length b ≡ 8
-    → b ≡ sets (bytes_of 8 x) at (row (cell (content d)) offset i) → r ≡ number_at 8 b 0 → r ≡ merged x at (moved d offset count)
+pub merged_by : (b d : List ℕ) (x at offset count i r : ℕ) → i ≡ count → b ≡ sets (bytes_of 8 x) at (row (cell (content d)) offset i) → r ≡ from_be_bytes w64 b
+    → r ≡ merged x at (moved d offset count)
 unfolding merged moved
-merged_by b d x at offset count i r h k l p q =
-    let e : i ≡ count = omega arith in
-    let m : 0 + 8 ≤ length b = omega arith in
-    q ∙ number_fits 8 b 0 m ∙ ap (λ (t : List ℕ). big 8 (cell t) 0) (rw e at p)
+merged_by b d x at offset count i r e p q = q ∙ big_eight b ∙ ap (λ (t : List ℕ). big 8 (cell t) 0) (rw e at p)
 
--- the key's 32 bytes and those behind it
-abbrev pub keyed : List ℕ → List ℕ → ℕ → ℕ → ℕ → ℕ
-keyed key b at count = cell (row (cell key) 0 32 ++ row (cell b) at count)
-
-pub shifted_by : (key b l d : List ℕ) (x at count i : ℕ) → 32 ≤ i → i ≤ 32 → length l ≡ 32 → b ≡ bytes_of 8 x
-    → d ≡ sets l 0 (row (keyed key b at count) count i) → d ≡ shifted key (row (cell (bytes_of 8 x)) at count)
+-- the key moved to the front, and the bytes of x put behind it
+pub shifted_by : (key m b d : List ℕ) (x at n : ℕ) → length key ≡ 32 → length m ≡ 32 → at + n ≤ 8 → b ≡ to_be_bytes w64 x
+    → ((i : ℕ) → i < 32 - n → cell m i ≡ cell key (n + (i - 0))) → d ≡ copy_def b at m (32 - n) n → d ≡ shifted key (row (cell (bytes_of 8 x)) at n)
 unfolding shifted
-shifted_by key b l d x at count i h k n q p =
-    let e : i ≡ 32 = omega arith in
-    let f = keyed key (bytes_of 8 x) at count in
-    (rw (e, q) at p) ∙ sets_whole l (row f count 32) (length_row f count 32 ∙ sym n) ∙ rw (length_row (cell (bytes_of 8 x)) at count)
+shifted_by key m b d x at n k l f p h q =
+    q ∙ copy_fits b at m (32 - n) n (rw lb (omega arith)) (omega arith) ∙ rw e (rw lv (row_is whole n 32 (sets m (32 - n) vs) (length-sets m (32 - n) vs ∙ l) each))
+  where
+    e : b ≡ bytes_of 8 x
+    e = p ∙ bytes_eight x
+
+    lb : length b ≡ 8
+    lb = ap length e ∙ length_bytes 8 x
+
+    vs : List ℕ
+    vs = row (cell (bytes_of 8 x)) at n
+
+    lv : length vs ≡ n
+    lv = length_row (cell (bytes_of 8 x)) at n
+
+    whole : ℕ → ℕ
+    whole = cell (row (cell key) 0 32 ++ vs)
+
+    each : (i : ℕ) → i < 32 → cell (sets m (32 - n) vs) i ≡ whole (n + i)
+    each i b = go (dec_lt i (32 - n))
+      where
+        go : Dec (i < 32 - n) → cell (sets m (32 - n) vs) i ≡ whole (n + i)
+        go (yes c) = sets_below m (32 - n) vs i c ∙ (rw sub-zero at (h i c)) ∙ key_front key vs (n + i) (omega arith)
+        go (no c) =
+            let j : i ≡ 32 - n + (i - (32 - n)) = omega arith in
+            let o : n + i - 32 ≡ i - (32 - n) = omega arith in
+            let g : i - (32 - n) < length vs = omega (arith, lv) in
+            let u : 32 - n + length vs ≤ length m = omega (arith, lv) in
+            ap (cell (sets m (32 - n) vs)) j ∙ sets_among m (32 - n) vs (i - (32 - n)) u g ∙ ap (cell vs) (sym o) ∙ key_back key vs (n + i) (omega arith)
 
 -- of a key of 32 bytes, these are the last 32 bytes of the key with vs behind it
 pub shifted_key : (key vs : List ℕ) → length key ≡ 32 → shifted key vs ≡ row (cell (key ++ vs)) (length vs) (length key)

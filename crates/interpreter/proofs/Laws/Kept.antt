@@ -1,5 +1,5 @@
 -- What every step keeps: the form of its state, and that a store goes to a doubleword.
-use Rattle.std.proofs.Common.{◌≡◌, ℕ, ◌+◌, ◌*◌, ◌/◌, ◌%◌, ◌^◌, ◌<◌, ◌≤◌, Bool, true, false, cond, ltb, List, [], length, sym, refl, ap, ◌∙◌, arith, length-append, length-drop, ltb-false, le-ltb, Result, Ok, Err}
+use Rattle.std.proofs.Common.{◌≡◌, ℕ, ◌+◌, ◌*◌, ◌/◌, ◌%◌, ◌^◌, ◌<◌, ◌≤◌, Bool, true, false, cond, ltb, List, [], length, sym, refl, ap, ◌∙◌, arith, length-append, length-drop, ltb-false, le-ltb, Result, Ok, Err, Option, Some, None}
 use Rattle.std.specs.Prelude.{Option, Some, None, Ok, Err}
 use lib.Seq.{length-sets}
 use Rattle.pages.specs.Bytes.{cell, big, bytes_of}
@@ -19,8 +19,6 @@ use Rattle.interpreter.specs.Kernel.{touch_def}
 use Rattle.interpreter.specs.declared.effect.Change.{Change}
 use Rattle.interpreter.specs.Effects.{Effect}
 use Rattle.interpreter.specs.declared.effect.Stop.TheVariants.{Refused as RefusedBy, Call as CallBy}
-use Rattle.interpreter.specs.declared.effect.Touch.{Touch}
-use Rattle.interpreter.specs.declared.effect.Touch.TheVariants.{Nothing, Eight}
 use Rattle.interpreter.specs.declared.effect.Refusal.{Refusal}
 use Rattle.interpreter.specs.declared.effect.Refusal.TheVariants.{BadMachine, NoRoom}
 use Rattle.interpreter.specs.declared.state.Cpu.{Cpu}
@@ -28,10 +26,7 @@ use Rattle.interpreter.specs.declared.step.Answer.{Answer}
 use Rattle.interpreter.specs.declared.step.Answer.TheVariants.{Stepped, Hint, Exited}
 use Rattle.interpreter.specs.declared.linux.Call.{Call}
 use Rattle.interpreter.specs.declared.linux.Call.TheVariants.{Answer as Reply, Heap, Exit, Key, Input, Write, Hint as HintWrite}
-use Rattle.interpreter.specs.declared.hint.Heard.{Heard}
-use Rattle.interpreter.specs.declared.hint.Heard.TheVariants.{Keep, HandOut, Refuse}
 use Rattle.interpreter.specs.declared.input.Entry.{Entry}
-use Rattle.interpreter.specs.declared.input.Entry.TheVariants.{At, Absent}
 use Rattle.interpreter.specs.Machine.{Machine, reg, counted, changed, onward, leaving, formless, room_of, bad}
 use Rattle.interpreter.specs.Inputs.{entry_of, inside, part_of}
 use Rattle.interpreter.specs.Hints.{text_of, heard}
@@ -63,9 +58,9 @@ pub touch_aligned : (r : List ℕ) (w : ℕ) → Aligned (touched_at (touch_of r
 unfolding touch_of touch_def
 touch_aligned r w = touching_all Aligned zero_aligned (decode w) (address_of w (reg r (rs_of w)) / 8 * 8) (cut_aligned (address_of w (reg r (rs_of w))) (wrapped _))
 
-storing_aligned : (t : Touch) (e : Change) → Aligned (touched_at t) → Aligned (address_in (storing t e))
-storing_aligned Nothing e h = zero_aligned
-storing_aligned (Eight a) e h = go e.store
+storing_aligned : (t : Option ℕ) (e : Change) → Aligned (touched_at t) → Aligned (address_in (storing t e))
+storing_aligned None e h = zero_aligned
+storing_aligned (Some a) e h = go e.store
   where
     go : (m : Option ℕ) → Aligned (address_in (store_of (Eight a) m))
     go (Some m) = h
@@ -110,7 +105,7 @@ module _ (v : View) (counts : length v.held ≡ v.cpu.hint) (within : length v.h
       → (((i : ℕ) → reg v.regs i < 2 ^ 64) → Aligned (address_in d.store)) → (v.fits 0 ≡ true → v.fits (length d.written) ≡ true) → Sound v (does d)
   still d e r h g o = sound (record { rules = r; hint = rw (e, h) same_hint; room = rw e same_room; goes = g; out = o })
 
-  change_sound : (t : Touch) (e : Change) → Aligned (touched_at t) → Sound v (does (changing v t e))
+  change_sound : (t : Option ℕ) (e : Change) → Aligned (touched_at t) → Sound v (does (changing v t e))
   unfolding changing changed
   change_sound t e h = still (changing v t e) refl refl refl (λ s. storing_aligned t e h) (λ o. o)
 
@@ -147,9 +142,9 @@ module _ (v : View) (counts : length v.held ≡ v.cpu.hint) (within : length v.h
   unfolding reading_in
   reading_in_lem t = cond_sound (ltb (8 + length t) v.cpu.offset) (refuse_sound _) (read_sound t _)
 
-  reading_at_lem : (e : Entry) → Sound v (reading_at v e)
-  reading_at_lem Absent = refuse_sound _
-  reading_at_lem (At start n) = cond_sound (inside v.input start n) (reading_in_lem (part_of v.input start n)) (refuse_sound _)
+  reading_at_lem : (e : Option Entry) → Sound v (reading_at v e)
+  reading_at_lem None = refuse_sound _
+  reading_at_lem (Some e) = cond_sound (inside v.input e.start e.length) (reading_in_lem (part_of v.input e.start e.length)) (refuse_sound _)
 
   -- the bytes appended have room
   hinted_sound : (r : Answer) (n : ℕ) (text : List ℕ) → n ≤ length v.held + a2 v → length v.held + a2 v ≤ v.room
@@ -163,15 +158,15 @@ module _ (v : View) (counts : length v.held ≡ v.cpu.hint) (within : length v.h
   together_length = length-append v.held (span v.memory (a1 v) (a2 v)) ∙ rw (length_span v.memory (a1 v) (a2 v))
 
   -- a hint that is handed out fits
-  text_fits : (n : ℕ) → heard (together v) v.fits ≡ HandOut n → v.fits (length (text_of (together v))) ≡ true
+  text_fits : (n : ℕ) → heard (together v) v.fits ≡ Ok (Some n) → v.fits (length (text_of (together v))) ≡ true
   text_fits n e =
       let w = out_whole (together v) v.fits n e in
       ap v.fits (length-drop 4 (together v) ∙ omega (arith, w.0)) ∙ w.1
 
-  hearing_sound : (g : Heard) → heard (together v) v.fits ≡ g → length v.held + a2 v ≤ v.room → Sound v (hearing v (together v) g)
-  hearing_sound (Refuse n) e k = refuse_sound n
-  hearing_sound Keep e k = hinted_sound Stepped (length (together v)) [] (omega (arith, together_length)) k (λ o. o)
-  hearing_sound (HandOut n) e k = hinted_sound (Hint n) 0 (text_of (together v)) (omega arith) k (λ o. text_fits n e)
+  hearing_sound : (g : Result (Option ℕ) Refusal) → heard (together v) v.fits ≡ g → length v.held + a2 v ≤ v.room → Sound v (hearing v (together v) g)
+  hearing_sound (Err n) e k = refuse_sound n
+  hearing_sound (Ok None) e k = hinted_sound Stepped (length (together v)) [] (omega (arith, together_length)) k (λ o. o)
+  hearing_sound (Ok (Some n)) e k = hinted_sound (Hint n) 0 (text_of (together v)) (omega arith) k (λ o. text_fits n e)
 
   hinting_sound : Sound v (hinting v)
   unfolding hinting
@@ -191,7 +186,7 @@ module _ (v : View) (counts : length v.held ≡ v.cpu.hint) (within : length v.h
   calling_sound (Write s) = write_sound s
   calling_sound HintWrite = hinting_sound
 
-  planned_sound : (t : Touch) (e : Effect) → Aligned (touched_at t) → Sound v (planned v t e)
+  planned_sound : (t : Option ℕ) (e : Effect) → Aligned (touched_at t) → Sound v (planned v t e)
   unfolding planned
   planned_sound t (Err (RefusedBy n)) h = refuse_sound n
   planned_sound t (Err CallBy) h = calling_sound (call_in v.cpu v.regs)

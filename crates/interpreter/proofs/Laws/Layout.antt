@@ -1,15 +1,16 @@
 -- A state's bytes: what the code writes and reads, and that bytes and states say the same.
-use Rattle.std.proofs.Common.{◌≡◌, ℕ, zero, suc, ◌+◌, ◌*◌, ◌<◌, ◌≤◌, Bool, true, false, cond, not, ◌&&◌, ◌||◌, eqb, ltb, leb, List, ◌++◌, length, set, sym, refl, ap, ◌∙◌, zero-add, arith, length-append, length-set, get_or-set_other, get_or-set_same, ext_get_or, le-ltb, lt-ltb, eq-eqb, ne_eqb, le-leb}
+use Rattle.std.proofs.Common.{◌≡◌, ℕ, zero, suc, ◌+◌, ◌*◌, ◌<◌, ◌≤◌, Bool, true, false, cond, not, ◌&&◌, ◌||◌, eqb, ltb, leb, List, ◌++◌, length, set, sym, refl, ap, ◌∙◌, zero-add, arith, length-append, length-set, get_or-set_other, get_or-set_same, ext_get_or, le-ltb, lt-ltb, eq-eqb, ne_eqb, le-leb, Some, None, is_some}
 use native.Mathlib.Decide.{dec_lt}
 use lib.Seq.{sets, length-sets}
 use borrow.Author.Tests.{lt-leb}
+use Rattle.std.specs.Int.{from_bool}
 use Rattle.pages.specs.Bytes.{cell, row, zeros, big, bytes_of}
-use Rattle.pages.specs.Calls.{number_at, put_def}
+use Rattle.pages.specs.Calls.{number_at, put_def, copy_def}
 use Rattle.pages.proofs.Laws.Runs.{length_row, cell_row}
 use Rattle.pages.proofs.Laws.Numbers.{length_bytes}
-use Rattle.pages.proofs.Laws.Places.{number_fits, put_fits, sets_then, sets_whole}
+use Rattle.pages.proofs.Laws.Places.{number_fits, put_fits, copy_fits, sets_then, sets_whole}
 use Rattle.interpreter.specs.Machine.{reg, cpu_of, state_of, largest_rules, hint_room, formless}
-use Rattle.interpreter.specs.Layout.{eights, flag, numbers_of, last_of, encode, eight, numbers, decode_at, formed_at, valid, malformed, decoded_at, decode_def}
+use Rattle.interpreter.specs.Layout.{eights, flag, numbers_of, last_of, encode, eight, numbers, decode_at, formed_at, decoded_at, decode_def}
 use Rattle.interpreter.specs.declared.state.State.{State}
 use Rattle.interpreter.specs.declared.state.Cpu.{Cpu}
 
@@ -61,6 +62,10 @@ put_eights b at c h e1 e2 e3 e4 e5 e6 e7 e8 =
     let f6 = put_eight b a r 5 (at + 296) (omega arith) (omega arith) f5 e6 in
     let f7 = put_eight b a r 6 (at + 304) (omega arith) (omega arith) f6 e7 in
     put_eight b a r 7 (at + 312) (omega arith) (omega arith) f7 e8
+
+pub flag_byte : (b : Bool) → from_bool b ≡ flag b
+flag_byte true = refl
+flag_byte false = refl
 
 pub put_last : (b : List ℕ) (at : ℕ) (c : Cpu) {f : ℕ} {d : List ℕ} → at + 360 ≤ length b → f ≡ flag c.exited
     → d ≡ put_def (set (set (set b (at + 352) f) (at + 353) c.code) (at + 354) c.rules) (at + 355) (zeros 5) → d ≡ sets b (at + 352) (last_of c)
@@ -127,6 +132,9 @@ set_more l v g i m h e j n = go (dec_lt j i)
     go (no k) =
         let s : j ≡ i = omega arith in
         rw s (get_or-set_same l i v 0 m ∙ e)
+
+pub key_copied : (b : List ℕ) (k : ℕ) (z : List ℕ) {d : List ℕ} → k + 32 ≤ length b → length z ≡ 32 → d ≡ copy_def b k z 0 32 → d ≡ row (cell b) k 32
+key_copied b k z h l e = e ∙ copy_fits b k z 0 32 h (omega arith) ∙ sets_whole z (row (cell b) k 32) (length_row (cell b) k 32 ∙ sym l)
 
 pub state_is : (b : List ℕ) (k : ℕ) {r key : List ℕ} {pc next hi lo heap step offset hint : ℕ} → k + 360 ≤ length b
     → r ≡ numbers b k 32
@@ -199,30 +207,29 @@ module _ (b : List ℕ) (k : ℕ) where
       pub formed_hint : {h : ℕ} → cell b (k + 354) ≤ 1 → h ≡ number_at 8 b (k + 312) → leb h 65536 ≡ formed_at b k
       formed_hint {h = h} r g = at_most h 65536 ∙ rw (g ∙ number_fits 8 b (k + 312) (omega arith)) (formed_is b k (le-leb _ _ x) none (le-ltb _ _ r) refl)
 
--- what is decoded is formed where it is a state
-pub valid_formed : (b : Bool) (s : State) → (cond b (valid s) malformed).formed ≡ b
-unfolding malformed
-valid_formed true s = refl
-valid_formed false s = refl
+-- there is a state where the bytes are formed
+pub some_formed : (b : Bool) (s : State) → is_some (cond b (Some s) None) ≡ b
+some_formed true s = refl
+some_formed false s = refl
 
 module _ (b : List ℕ) where
-  pub decode_other : (length b ≡ 360 → ⊥) → malformed ≡ decode_def b
+  pub decode_other : (length b ≡ 360 → ⊥) → None ≡ decode_def b
   unfolding decode_def
   decode_other h = rw (ne_eqb _ _ h)
 
   pub decode_whole : length b ≡ 360 → decoded_at b 0 ≡ decode_def b
   unfolding decoded_at decode_def
-  decode_whole h = rw (h, eq-eqb 360 360 refl, le-leb 360 360 (omega arith))
+  decode_whole h = rw h
 
   module _ (k : ℕ) where
-    pub decoded_short : length b < k + 360 → malformed ≡ decoded_at b k
+    pub decoded_short : length b < k + 360 → None ≡ decoded_at b k
     unfolding decoded_at
     decoded_short h = rw (lt-leb _ _ h)
 
-    pub decoded_valid : {f : Bool} {s : State} → k + 360 ≤ length b → f ≡ formed_at b k → f ≡ true → s ≡ decode_at b k → valid s ≡ decoded_at b k
+    pub decoded_valid : {f : Bool} {s : State} → k + 360 ≤ length b → f ≡ formed_at b k → f ≡ true → s ≡ decode_at b k → Some s ≡ decoded_at b k
     unfolding decoded_at
     decoded_valid h e t p = rw (le-leb _ _ h, ← e, t, p)
 
-    pub decoded_malformed : {f : Bool} → k + 360 ≤ length b → f ≡ formed_at b k → f ≡ false → malformed ≡ decoded_at b k
+    pub decoded_none : {f : Bool} → k + 360 ≤ length b → f ≡ formed_at b k → f ≡ false → None ≡ decoded_at b k
     unfolding decoded_at
-    decoded_malformed h e t = rw (le-leb _ _ h, ← e, t)
+    decoded_none h e t = rw (le-leb _ _ h, ← e, t)

@@ -1,6 +1,6 @@
 -- Steps that are not wide: every memory that shows the touched eight bytes has the same step, and no other byte of it changes.
 use Rattle.std.specs.Prelude.{Option, Some, None, Ok, Err}
-use Rattle.std.proofs.Common.{◌≡◌, ℕ, ◌^◌, ◌<◌, Bool, true, false, cond, eqb, List, [], length, set, sym, refl, ap, ◌∙◌, subst, length-set}
+use Rattle.std.proofs.Common.{◌≡◌, ℕ, ◌^◌, ◌<◌, Bool, true, false, cond, eqb, List, [], length, set, sym, refl, ap, ◌∙◌, subst, length-set, Option, Some, None}
 use Rattle.pages.specs.Bytes.{big, bytes_of}
 use Rattle.pages.specs.Memory.{Memory, write}
 use Rattle.pages.proofs.Laws.Runs.{length_row}
@@ -13,8 +13,6 @@ use Rattle.interpreter.specs.declared.effect.Change.{Change}
 use Rattle.interpreter.specs.Effects.{Effect}
 use Rattle.interpreter.specs.declared.effect.Stop.TheVariants.{Refused as RefusedBy, Call as CallBy}
 use Rattle.interpreter.specs.declared.effect.Refusal.{Refusal}
-use Rattle.interpreter.specs.declared.effect.Touch.{Touch}
-use Rattle.interpreter.specs.declared.effect.Touch.TheVariants.{Nothing, Eight}
 use Rattle.interpreter.specs.declared.state.Cpu.{Cpu}
 use Rattle.interpreter.specs.declared.linux.Call.{Call}
 use Rattle.interpreter.specs.declared.linux.Call.TheVariants.{Answer as Reply, Heap, Exit, Key, Input, Write, Hint as HintWrite}
@@ -33,11 +31,11 @@ use Rattle.interpreter.proofs.Laws.Shown.{unrefused, pc_aligned, touched_call, t
 -- ---- what such a step does
 
 -- a store goes to the touched eight bytes
-abbrev pub Goes : Touch → Store → Type 0
+abbrev pub Goes : Option ℕ → Store → Type 0
 Goes t keeps = Unit {0}
-Goes t (stores a v) = t ≡ Eight a
+Goes t (stores a v) = t ≡ Some a
 
-pub record Narrow (r k : List ℕ) (t : Touch) (d : Deed) : Type 0 where
+pub record Narrow (r k : List ℕ) (t : Option ℕ) (d : Deed) : Type 0 where
   pub regs : length d.regs ≡ length r
   pub key : length k ≡ 32 → length d.key ≡ 32
   pub goes : Goes t d.store
@@ -58,32 +56,32 @@ length_written r i v = go (eqb i 0)
     go true = refl
     go false = length-set r i v
 
-storing_goes : (t : Touch) (e : Change) → Goes t (storing t e)
-storing_goes Nothing e = tt
-storing_goes (Eight a) e = go e.store
+storing_goes : (t : Option ℕ) (e : Change) → Goes t (storing t e)
+storing_goes None e = tt
+storing_goes (Some a) e = go e.store
   where
-    go : (m : Option ℕ) → Goes (Eight a) (store_of (Eight a) m)
+    go : (m : Option ℕ) → Goes (Some a) (store_of (Some a) m)
     go (Some m) = refl
     go None = tt
 
 module _ (v : View) where
-  change_narrow : (t : Touch) (e : Change) → Narrow v.regs v.key t (changing v t e)
+  change_narrow : (t : Option ℕ) (e : Change) → Narrow v.regs v.key t (changing v t e)
   unfolding changing
   change_narrow t e = record { regs = length_written v.regs e.dest e.value; key = λ h. h; goes = storing_goes t e; answer = refl }
 
-  reply_narrow : (t : Touch) (x e : ℕ) (c : Cpu) → Narrow v.regs v.key t (replying v x e c)
+  reply_narrow : (t : Option ℕ) (x e : ℕ) (c : Cpu) → Narrow v.regs v.key t (replying v x e c)
   unfolding replying
   reply_narrow t x e c = record { regs = length_answer v.regs x e; key = λ h. h; goes = tt; answer = refl }
 
-  exit_narrow : (t : Touch) (n : ℕ) → Narrow v.regs v.key t (exiting v n)
+  exit_narrow : (t : Option ℕ) (n : ℕ) → Narrow v.regs v.key t (exiting v n)
   unfolding exiting
   exit_narrow t n = record { regs = refl; key = λ h. h; goes = tt; answer = refl }
 
-  key_narrow : (t : Touch) (x : ℕ) → Narrow v.regs v.key t (keying v x)
+  key_narrow : (t : Option ℕ) (x : ℕ) → Narrow v.regs v.key t (keying v x)
   unfolding keying shifted
   key_narrow t x = record { regs = length_answer v.regs _ 0; key = λ h. length_row _ _ 32; goes = tt; answer = refl }
 
-  call_narrow : (t : Touch) (g : Call) → call_wide g ≡ false → Found (Narrow v.regs v.key t) (calling v g)
+  call_narrow : (t : Option ℕ) (g : Call) → call_wide g ≡ false → Found (Narrow v.regs v.key t) (calling v g)
   unfolding calling
   call_narrow t (Reply x e) h = found _ refl (reply_narrow t x e _)
   call_narrow t (Heap n) h = found _ refl (reply_narrow t _ 0 _)
@@ -165,14 +163,14 @@ ideal_fetches x d c r k m h w e f = rw (e, f)
 
 -- ---- what a store leaves
 
-pub remember_outside : (m : Memory) (t : Touch) (s : Store) → Goes t s → (b : ℕ) → Outside t b → remember m s b ≡ m b
+pub remember_outside : (m : Memory) (t : Option ℕ) (s : Store) → Goes t s → (b : ℕ) → Outside t b → remember m s b ≡ m b
 remember_outside m t keeps g b o = refl
 remember_outside m t (stores a v) g b o = write_outside m a (bytes_of 8 v) 8 (length_bytes 8 v) b (rw g at o)
 
 write_same : (m n : Memory) (a v : ℕ) → big 8 (write m a (bytes_of 8 v)) a ≡ big 8 (write n a (bytes_of 8 v)) a
 write_same m n a v = write_number m a (bytes_of 8 v) 8 (length_bytes 8 v) ∙ sym (write_number n a (bytes_of 8 v) 8 (length_bytes 8 v))
 
-pub remember_same : (m n : Memory) (t : Touch) (s : Store) → Goes t s → eight_at m t ≡ eight_at n t → eight_at (remember m s) t ≡ eight_at (remember n s) t
+pub remember_same : (m n : Memory) (t : Option ℕ) (s : Store) → Goes t s → eight_at m t ≡ eight_at n t → eight_at (remember m s) t ≡ eight_at (remember n s) t
 remember_same m n t keeps g e = e
 remember_same m n t (stores a v) g e = rw g (write_same m n a v)
 
@@ -187,10 +185,10 @@ call_aligned x Input h = zero_aligned
 call_aligned x (Write s) h = zero_aligned
 call_aligned x HintWrite h = zero_aligned
 
-pub touched_aligned : (c : Cpu) (r : List ℕ) (w a : ℕ) → ((i : ℕ) → reg r i < 2 ^ 64) → touched c r w ≡ Eight a → Aligned a
+pub touched_aligned : (c : Cpu) (r : List ℕ) (w a : ℕ) → ((i : ℕ) → reg r i < 2 ^ 64) → touched c r w ≡ Some a → Aligned a
 unfolding touched
 touched_aligned c r w a s e = go (calls (decode w)) e
   where
-    go : (b : Bool) → cond b (call_touch (reg r 5) (call_in c r)) (touch_of r w) ≡ Eight a → Aligned a
+    go : (b : Bool) → cond b (call_touch (reg r 5) (call_in c r)) (touch_of r w) ≡ Some a → Aligned a
     go true q = subst Aligned (ap touched_at q) (call_aligned (reg r 5) (call_in c r) (s 5))
     go false q = subst Aligned (ap touched_at q) (touch_aligned r w)

@@ -1,5 +1,5 @@
 -- How the parts of a step meet its definition.
-use Rattle.std.proofs.Common.{◌≡◌, ℕ, ◌+◌, ◌-◌, ◌*◌, ◌/◌, ◌%◌, ◌<◌, ◌≤◌, Bool, true, false, cond, ltb, leb, List, length, sym, refl, ap, ◌∙◌, arith, ltb-false, le-ltb, lt-ltb, ne_eqb, le-leb, Result, Ok, Err}
+use Rattle.std.proofs.Common.{◌≡◌, ℕ, ◌+◌, ◌-◌, ◌*◌, ◌/◌, ◌%◌, ◌<◌, ◌≤◌, Bool, true, false, cond, ltb, leb, List, length, sym, refl, ap, ◌∙◌, arith, ltb-false, le-ltb, lt-ltb, ne_eqb, le-leb, Result, Ok, Err, Option, Some, None}
 use Rattle.std.specs.Prelude.{Ok, Err}
 use lib.Seq.{sets}
 use borrow.Author.Tests.{lt-leb}
@@ -13,7 +13,6 @@ use Rattle.pages.proofs.Laws.Places.{put_fits}
 use Rattle.pages.specs.declared.memory.StoreError.{StoreError}
 use Rattle.interpreter.specs.Words.{plus}
 use Rattle.interpreter.specs.declared.effect.Change.{Change}
-use Rattle.interpreter.specs.declared.effect.Touch.{Touch}
 use Rattle.interpreter.specs.declared.effect.Refusal.{Refusal}
 use Rattle.interpreter.specs.declared.effect.Refusal.TheVariants.{PcMisaligned, MemoryFull, NoRoom, NoInput, InputOffset}
 use Rattle.interpreter.specs.declared.effect.Ins.{Ins}
@@ -27,12 +26,9 @@ use Rattle.interpreter.specs.declared.linux.Call.TheVariants.{Answer as Reply, H
 use Rattle.interpreter.specs.Machine.{Machine, machine, reg, set_reg, answering, counted, changed, onward, leaving, room_of}
 use Rattle.interpreter.specs.Inputs.{entry_of, inside, part_def, moving, moved, merged, shifting, shifted}
 use Rattle.interpreter.specs.declared.input.Entry.{Entry}
-use Rattle.interpreter.specs.declared.input.Entry.TheVariants.{At, Absent}
 use Rattle.interpreter.specs.declared.linux.Call.{Call}
 use Rattle.interpreter.specs.Hints.{heard}
 use Rattle.interpreter.specs.Parts.{after, refusing, doing, Listened, listened, listened_to, joined, listening}
-use Rattle.interpreter.specs.declared.hint.Heard.{Heard}
-use Rattle.interpreter.specs.declared.hint.Heard.TheVariants.{Keep, HandOut, Refuse}
 use Rattle.interpreter.specs.Plan.{View, Deed, storing, does, changing, staying, replying, exiting, keying, wrote, writing, hinted, hearing, hinting, read, read_from, reading_in, reading, refuse, calling, call_in, eight_at, ins_of, touch_of, planned, executing, plan}
 use Rattle.interpreter.specs.Step.{Left, landed, putting, lay, settled, view_of, working, advance}
 use Rattle.interpreter.proofs.Laws.Tests.{no_true}
@@ -59,12 +55,12 @@ module _ (c : Cpu) (r k : List ℕ) (u : ℕ) (p h o x d : List ℕ) where
   unfolding working lay
   deed_done f {s} {q} {w} e z = rw (← e, z)
 
-  pub change_done : (t : Touch) (e : Change) {s : Result ℕ StoreError} {q l : List ℕ} {w : ℕ} {b : Cpu} {n : Next} → stored s q ≡ putting p u (storing t e) → s ≡ Ok w
+  pub change_done : (t : Option ℕ) (e : Change) {s : Result ℕ StoreError} {q l : List ℕ} {w : ℕ} {b : Cpu} {n : Next} → stored s q ≡ putting p u (storing t e) → s ≡ Ok w
       → l ≡ set_reg r e.dest e.value → b ≡ changed c e → n ≡ doing Stepped b w → after n l k q h o ≡ working x d m0 (λ v. does (changing v t e))
   unfolding settled changing view_of
   change_done t e i z y b g = rw (g, y, b) (deed_done (λ v. changing v t e) i z)
 
-  pub change_full : (t : Touch) (e : Change) {s g : Result ℕ StoreError} {q : List ℕ} {n : Next} → stored s q ≡ putting p u (storing t e) → s ≡ g → is_used g ≡ false
+  pub change_full : (t : Option ℕ) (e : Change) {s g : Result ℕ StoreError} {q : List ℕ} {n : Next} → stored s q ≡ putting p u (storing t e) → s ≡ g → is_used g ≡ false
       → n ≡ refusing c u MemoryFull → after n r k q h o ≡ working x d m0 (λ v. does (changing v t e))
   unfolding changing view_of
   change_full t e = deed_full (λ v. changing v t e)
@@ -129,10 +125,10 @@ module _ (c : Cpu) (r k : List ℕ) (u : ℕ) (p h o x d : List ℕ) where
   -- ---- 5001 on 4
 
   -- what a write to the hint descriptor leaves, by what was heard
-  abbrev hint_left : Heard → List ℕ → List ℕ → Left
-  hint_left (Refuse n) g e = after (refusing c u n) r k p g e
-  hint_left Keep g e = after (doing Stepped (onward c c.heap c.offset (plus c.hint (reg r 6))) u) (answering r (reg r 6) 0) k p g e
-  hint_left (HandOut n) g e = after (doing (Hint n) (onward c c.heap c.offset 0) u) (answering r (reg r 6) 0) k p g e
+  abbrev hint_left : Result (Option ℕ) Refusal → List ℕ → List ℕ → Left
+  hint_left (Err n) g e = after (refusing c u n) r k p g e
+  hint_left (Ok None) g e = after (doing Stepped (onward c c.heap c.offset (plus c.hint (reg r 6))) u) (answering r (reg r 6) 0) k p g e
+  hint_left (Ok (Some n)) g e = after (doing (Hint n) (onward c c.heap c.offset 0) u) (answering r (reg r 6) 0) k p g e
 
   abbrev hint_as : Listened → Left
   hint_as z = hint_left z.heard z.hint z.output
@@ -143,19 +139,19 @@ module _ (c : Cpu) (r k : List ℕ) (u : ℕ) (p h o x d : List ℕ) where
   abbrev t0 : List ℕ
   t0 = joined (byte_at p u) h c.hint (reg r 5) (reg r 6)
 
-  heard_as : (g : Heard) → length t0 ≡ plus c.hint (reg r 6)
+  heard_as : (g : Result (Option ℕ) Refusal) → length t0 ≡ plus c.hint (reg r 6)
       → hint_as (listened_to h (sets h c.hint (span (byte_at p u) (reg r 5) (reg r 6))) t0 o g) ≡ lay m0 (hearing v0 t0 g)
   unfolding lay hinted settled view_of
-  heard_as (Refuse n) e = refl
-  heard_as Keep e = rw e
-  heard_as (HandOut n) e = refl
+  heard_as (Err n) e = refl
+  heard_as (Ok None) e = rw e
+  heard_as (Ok (Some n)) e = refl
 
   hint_small : c.hint + reg r 6 ≤ room_of h → c.hint + reg r 6 ≡ plus c.hint (reg r 6)
   unfolding room_of
   hint_small e = omega arith
 
   hint_by : (b : Bool) → ltb (room_of h) (c.hint + reg r 6) ≡ b
-      → hint_as (cond b (listened (Refuse NoRoom) h o) (listened_to h (sets h c.hint (span (byte_at p u) (reg r 5) (reg r 6))) t0 o (heard t0 (λ n. leb n (length o)))))
+      → hint_as (cond b (listened (Err NoRoom) h o) (listened_to h (sets h c.hint (span (byte_at p u) (reg r 5) (reg r 6))) t0 o (heard t0 (λ n. leb n (length o)))))
       ≡ lay m0 (cond b (refuse NoRoom) (hearing v0 t0 (heard t0 (λ n. leb n (length o)))))
   unfolding lay
   hint_by true e = refl
@@ -165,20 +161,20 @@ module _ (c : Cpu) (r k : List ℕ) (u : ℕ) (p h o x d : List ℕ) where
   unfolding listening joined working calling hinting view_of
   hint_as_lem = hint_by (ltb (room_of h) (c.hint + reg r 6)) refl ∙ rw (length_row (cell h) 0 c.hint)
 
-  pub hint_done : {g f : Heard} {e q : List ℕ} {l : Left} → listened g e q ≡ listening (byte_at p u) h c.hint (reg r 5) (reg r 6) o → g ≡ f → l ≡ hint_left f e q
+  pub hint_done : {g f : Result (Option ℕ) Refusal} {e q : List ℕ} {l : Left} → listened g e q ≡ listening (byte_at p u) h c.hint (reg r 5) (reg r 6) o → g ≡ f → l ≡ hint_left f e q
       → l ≡ working x d m0 (λ v. calling v HintWrite)
   hint_done {g} {f} {e} {q} y z b = b ∙ ap (λ f. hint_left f e q) (sym z) ∙ ap hint_as y ∙ hint_as_lem
 
-  pub hint_refused : {g : Heard} {f : Refusal} {e q : List ℕ} {n : Next} → listened g e q ≡ listening (byte_at p u) h c.hint (reg r 5) (reg r 6) o → g ≡ Refuse f
+  pub hint_refused : {g : Result (Option ℕ) Refusal} {f : Refusal} {e q : List ℕ} {n : Next} → listened g e q ≡ listening (byte_at p u) h c.hint (reg r 5) (reg r 6) o → g ≡ Err f
       → n ≡ refusing c u f → after n r k p e q ≡ working x d m0 (λ v. calling v HintWrite)
   hint_refused y z b = hint_done y z (rw b)
 
-  pub hint_kept : {g : Heard} {e q l : List ℕ} {n : Next} {b : Cpu} {a : ℕ} → listened g e q ≡ listening (byte_at p u) h c.hint (reg r 5) (reg r 6) o → g ≡ Keep
+  pub hint_kept : {g : Result (Option ℕ) Refusal} {e q l : List ℕ} {n : Next} {b : Cpu} {a : ℕ} → listened g e q ≡ listening (byte_at p u) h c.hint (reg r 5) (reg r 6) o → g ≡ Ok None
       → l ≡ answering r (reg r 6) 0 → a ≡ plus c.hint (reg r 6) → b ≡ onward c c.heap c.offset a → n ≡ doing Stepped b u
       → after n l k p e q ≡ working x d m0 (λ v. calling v HintWrite)
   hint_kept y z b1 b2 b3 b4 = hint_done y z (rw (b4, b3, b2, b1))
 
-  pub hint_handed : {g : Heard} {f : ℕ} {e q l : List ℕ} {n : Next} {b : Cpu} → listened g e q ≡ listening (byte_at p u) h c.hint (reg r 5) (reg r 6) o → g ≡ HandOut f
+  pub hint_handed : {g : Result (Option ℕ) Refusal} {f : ℕ} {e q l : List ℕ} {n : Next} {b : Cpu} → listened g e q ≡ listening (byte_at p u) h c.hint (reg r 5) (reg r 6) o → g ≡ Ok (Some f)
       → l ≡ answering r (reg r 6) 0 → b ≡ onward c c.heap c.offset 0 → n ≡ doing (Hint f) b u → after n l k p e q ≡ working x d m0 (λ v. calling v HintWrite)
   hint_handed y z b1 b2 b3 = hint_done y z (rw (b3, b2, b1))
 
@@ -192,16 +188,16 @@ module _ (c : Cpu) (r k : List ℕ) (u : ℕ) (p h o x d : List ℕ) where
   unfolding working reading_in view_of
   offset_in t e i y = y ∙ rw (le-ltb (8 + length t) c.offset (omega arith))
 
-  pub input_absent : {e : Entry} {n : Next} → e ≡ entry_of x k → e ≡ Absent → n ≡ refusing c u NoInput → after n r k p h o ≡ working x d m0 (λ v. calling v Input)
+  pub input_absent : {e : Option Entry} {n : Next} → e ≡ entry_of x k → e ≡ None → n ≡ refusing c u NoInput → after n r k p h o ≡ working x d m0 (λ v. calling v Input)
   unfolding working calling reading lay view_of
   input_absent y z w = rw (w, ← y, z)
 
-  pub input_outside : {e : Entry} {s z : ℕ} {b : Bool} {n : Next} → e ≡ entry_of x k → e ≡ At s z → b ≡ inside d s z → b ≡ false → n ≡ refusing c u NoInput
+  pub input_outside : {e : Option Entry} {f : Entry} {b : Bool} {n : Next} → e ≡ entry_of x k → e ≡ Some f → b ≡ inside d f.start f.length → b ≡ false → n ≡ refusing c u NoInput
       → after n r k p h o ≡ working x d m0 (λ v. calling v Input)
   unfolding working calling reading lay view_of
   input_outside y z i f w = rw (w, ← y, z, ← i, f)
 
-  pub input_part : {e : Entry} {s z : ℕ} {b : Bool} {t : List ℕ} {l : Left} → e ≡ entry_of x k → e ≡ At s z → b ≡ inside d s z → b ≡ true → t ≡ part_def d s z
+  pub input_part : {e : Option Entry} {f : Entry} {b : Bool} {t : List ℕ} {l : Left} → e ≡ entry_of x k → e ≡ Some f → b ≡ inside d f.start f.length → b ≡ true → t ≡ part_def d f.start f.length
       → l ≡ working x d m0 (λ v. reading_in v t) → l ≡ working x d m0 (λ v. calling v Input)
   unfolding working calling reading part_def view_of
   input_part y z i f g w = w ∙ rw (← y, z, g, ← i, f)
@@ -212,7 +208,7 @@ module _ (c : Cpu) (r k : List ℕ) (u : ℕ) (p h o x d : List ℕ) where
   unfolding working view_of
   call_by y z w = w ∙ rw (← y, z)
 
-  module _ (w : ℕ) {t : Touch} {y : ℕ} {i : Ins} {e : Effect} (z1 : t ≡ touch_of r w) (z2 : y ≡ eight_at (byte_at p u) t) (z3 : i ≡ ins_of c r w y) (z4 : e ≡ kernel_def i) where
+  module _ (w : ℕ) {t : Option ℕ} {y : ℕ} {i : Ins} {e : Effect} (z1 : t ≡ touch_of r w) (z2 : y ≡ eight_at (byte_at p u) t) (z3 : i ≡ ins_of c r w y) (z4 : e ≡ kernel_def i) where
     exec_by : {f : Effect} {l : Left} → e ≡ f → l ≡ working x d m0 (λ v. planned v t f) → l ≡ working x d m0 (λ v. executing v w (touch_of v.regs w))
     unfolding working executing view_of
     exec_by g q = q ∙ rw (← z1, ← z2, ← z3, ← z4, g)

@@ -1,6 +1,6 @@
 -- How the parts of a recording step meet its definition.
 use Rattle.std.specs.Prelude.{Ok, Err}
-use Rattle.std.proofs.Common.{◌≡◌, ℕ, ◌*◌, ◌/◌, ◌%◌, Bool, true, false, cond, not, ◌&&◌, List, length, sym, refl, ap, ◌∙◌, arith, eq-eqb, ne_eqb}
+use Rattle.std.proofs.Common.{◌≡◌, ℕ, ◌*◌, ◌/◌, ◌%◌, Bool, true, false, cond, not, ◌&&◌, List, length, sym, refl, ap, ◌∙◌, arith, eq-eqb, ne_eqb, Option, Some}
 use lib.Seq.{sets}
 use Rattle.pages.specs.Bytes.{big}
 use Rattle.pages.specs.Pages.{byte_at}
@@ -12,11 +12,10 @@ use Rattle.interpreter.specs.Effects.{Effect}
 use Rattle.interpreter.specs.declared.effect.Stop.TheVariants.{Refused as RefusedBy, Call as CallBy}
 use Rattle.interpreter.specs.declared.effect.Refusal.{Refusal}
 use Rattle.interpreter.specs.declared.effect.Refusal.TheVariants.{BadMachine}
-use Rattle.interpreter.specs.declared.effect.Touch.{Touch}
-use Rattle.interpreter.specs.declared.effect.Touch.TheVariants.{Eight}
 use Rattle.interpreter.specs.declared.state.Cpu.{Cpu}
 use Rattle.interpreter.specs.declared.state.State.{State}
 use Rattle.interpreter.specs.declared.record.Seen.{Seen}
+use Rattle.interpreter.specs.declared.record.Seen.TheVariants.{Wide, Narrow}
 use Rattle.interpreter.specs.declared.linux.Call.{Call}
 use Rattle.interpreter.specs.declared.linux.Call.TheVariants.{Answer as Reply, Heap, Exit, Key, Input, Write, Hint}
 use Rattle.interpreter.specs.Machine.{Machine, reg, cpu_of, state_of, bad}
@@ -37,7 +36,7 @@ pub see_by : (c : Cpu) (r : List ℕ) (a : ℕ) {g f : Call} {s : Seen} → g �
 see_by c r a y z q = q ∙ rw (← y, z)
 
 pub see_key : (c : Cpu) (r : List ℕ) (a : ℕ) {b : ℕ} {g : Call} {s : Seen} → g ≡ call_in c r → g ≡ Key → b ≡ a / 8 * 8
-    → s ≡ record { wide = false; touch = Eight b } → s ≡ seen_call a (call_in c r)
+    → s ≡ Narrow (Some b) → s ≡ seen_call a (call_in c r)
 see_key c r a y z e q = see_by c r a y z (q ∙ rw e)
 
 module _ (c : Cpu) (r : List ℕ) (w : ℕ) {i : Ins} {e : Effect} (h : c.pc % 4 ≡ 0) (y : i ≡ ins_of c r w 0) (g : e ≡ kernel_def i) where
@@ -49,17 +48,17 @@ module _ (c : Cpu) (r : List ℕ) (w : ℕ) {i : Ins} {e : Effect} (h : c.pc % 4
   unfolding ins_of
   pc_as = rw y h
 
-  look_by : {s : Seen} {b : Bool} → calls (decode i.word) ≡ b → s ≡ record { wide = b && call_wide (call_in c r); touch = cond b (call_touch (reg r 5) (call_in c r)) (touch_of r w) } → s ≡ seen c r w
+  look_by : {s : Seen} {b : Bool} → calls (decode i.word) ≡ b → s ≡ cond (b && call_wide (call_in c r)) Wide (Narrow (cond b (call_touch (reg r 5) (call_in c r)) (touch_of r w))) → s ≡ seen c r w
   unfolding wide touched
   look_by {s} {b} z q = let k : calls (decode w) ≡ b = sym (ap (λ n. calls (decode n)) word_as) ∙ z in q ∙ rw k
 
   pub look_call : {s : Seen} → e ≡ Err CallBy → s ≡ seen_call (reg r 5) (call_in c r) → s ≡ seen c r w
   look_call z q = look_by (calls_call i pc_as g z) q
 
-  pub look_refused : {s : Seen} {n : Refusal} {t : Touch} → e ≡ Err (RefusedBy n) → t ≡ touch_of r w → s ≡ record { wide = false; touch = t } → s ≡ seen c r w
+  pub look_refused : {s : Seen} {n : Refusal} {t : Option ℕ} → e ≡ Err (RefusedBy n) → t ≡ touch_of r w → s ≡ Narrow t → s ≡ seen c r w
   look_refused z k q = look_by (calls_refused i pc_as g z) (q ∙ rw k)
 
-  pub look_done : {s : Seen} {a : Change} {t : Touch} → e ≡ Ok a → t ≡ touch_of r w → s ≡ record { wide = false; touch = t } → s ≡ seen c r w
+  pub look_done : {s : Seen} {a : Change} {t : Option ℕ} → e ≡ Ok a → t ≡ touch_of r w → s ≡ Narrow t → s ≡ seen c r w
   look_done z k q = look_by (calls_done i pc_as g z) (q ∙ rw k)
 
 -- the touched address is a doubleword's
@@ -72,21 +71,31 @@ call_even a Input = refl
 call_even a (Write s) = refl
 call_even a Hint = refl
 
-even_by : (b : Bool) (a x : ℕ) (g : Call) (t : Touch) → ((a : ℕ) → t ≡ Eight a → a % 8 ≡ 0) → cond b (call_touch x g) t ≡ Eight a → a % 8 ≡ 0
+even_by : (b : Bool) (a x : ℕ) (g : Call) (t : Option ℕ) → ((a : ℕ) → t ≡ Some a → a % 8 ≡ 0) → cond b (call_touch x g) t ≡ Some a → a % 8 ≡ 0
 even_by true a x g t h e = let q : a ≡ touched_at (call_touch x g) = ap touched_at (sym e) in rw q (call_even x g)
 even_by false a x g t h e = h a e
 
-pub touched_even : (c : Cpu) (r : List ℕ) (w : ℕ) {s : Seen} → s ≡ seen c r w → (a : ℕ) → s.touch ≡ Eight a → a % 8 ≡ 0
+-- what is seen says which it is
+seen_wide : (b : Bool) (u : Option ℕ) {s : Seen} → s ≡ cond b Wide (Narrow u) → s ≡ Wide → b ≡ true
+seen_wide true u y z = refl
+seen_wide false u y z = cc
+
+seen_narrow : (b : Bool) (u : Option ℕ) {s : Seen} {t : Option ℕ} → s ≡ cond b Wide (Narrow u) → s ≡ Narrow t → (b ≡ false) × (t ≡ u)
+seen_narrow true u y z = ((cc), (cc))
+seen_narrow false u y z = (refl, (cc))
+
+pub touched_even : (c : Cpu) (r : List ℕ) (w : ℕ) {s : Seen} {t : Option ℕ} → s ≡ seen c r w → s ≡ Narrow t → (a : ℕ) → t ≡ Some a → a % 8 ≡ 0
 unfolding touched touch_of
-touched_even c r w {s} y a e = even_by (calls (decode w)) a (reg r 5) (call_in c r) (touch_of r w) (λ b k. touch_even _ _ b k) (sym (ap (λ (z : Seen). z.touch) y) ∙ e)
+touched_even c r w y z a e =
+    even_by (calls (decode w)) a (reg r 5) (call_in c r) (touch_of r w) (λ b k. touch_even _ _ b k) (sym (seen_narrow (wide c r w) (touched c r w) y z).1 ∙ e)
 
 -- ---- the record
 
-pub record_filled : (b : List ℕ) (s n : State) (w : ℕ) (t : Touch) (x y : ℕ) {c e : Cpu} {d1 d2 d3 : List ℕ} → length b ≡ 752 → c ≡ cpu_of s → d1 ≡ sets b 0 (encode (state_of c s.regs s.key))
+pub record_filled : (b : List ℕ) (s n : State) (w : ℕ) (t : Option ℕ) (x y : ℕ) {c e : Cpu} {d1 d2 d3 : List ℕ} → length b ≡ 752 → c ≡ cpu_of s → d1 ≡ sets b 0 (encode (state_of c s.regs s.key))
     → e ≡ cpu_of n → d2 ≡ sets d1 360 (encode (state_of e n.regs n.key)) → d3 ≡ sets d2 720 (rest_of w t x y) → d3 ≡ record_of s n w t x y
 record_filled b s n w t x y l y1 z1 y2 z2 z3 = z3 ∙ rw (z2, z1, y1, y2, state_parts s, state_parts n) (record_whole b s n w t x y l)
 
-module _ (s : State) (u : ℕ) (p h o b : List ℕ) (w : ℕ) (t : Touch) {k l : Left} (y : k ≡ l) where
+module _ (s : State) (u : ℕ) (p h o b : List ℕ) (w : ℕ) (t : Option ℕ) {k l : Left} (y : k ≡ l) where
   pub seen_counts : {v z : ℕ} {e : List ℕ} → k.counts ≡ true → v ≡ eight_at (byte_at p u) t → z ≡ eight_at (memory_of k.machine) t
       → e ≡ record_of s (state_in k.machine) w t v z → recorded k e ≡ recording_as (machine_of s u p h o) b w t l
   unfolding recording_as cpu_of state_of
@@ -138,10 +147,12 @@ module _ (x d : List ℕ) (s : State) (u : ℕ) (p h o b : List ℕ) where
       seen_is : n ≡ seen (cpu_of s) s.regs (word_in m0)
       seen_is = v ∙ rw (y, word_is)
 
-      pub record_wide : {l : Left} → n.wide ≡ true → l ≡ step_def x d m0 → recorded l b ≡ recorded_def x d m0 b
+      pub record_wide : {l : Left} → n ≡ Wide → l ≡ step_def x d m0 → recorded l b ≡ recorded_def x d m0 b
       unfolding recorded_def recording
-      record_wide e q = rw (eq-eqb _ _ k, q, ← ap (λ (a : Seen). a.wide) seen_is, e)
+      record_wide e q = rw (eq-eqb _ _ k, q, seen_wide (wide (cpu_of s) s.regs (word_in m0)) (touched (cpu_of s) s.regs (word_in m0)) seen_is e)
 
-      pub record_done : {l : Recorded} → n.wide ≡ false → l ≡ recording_as m0 b w n.touch (step_def x d m0) → l ≡ recorded_def x d m0 b
+      pub record_done : {t : Option ℕ} {l : Recorded} → n ≡ Narrow t → l ≡ recording_as m0 b w t (step_def x d m0) → l ≡ recorded_def x d m0 b
       unfolding recorded_def recording recording_as record_from
-      record_done e q = q ∙ rw (eq-eqb _ _ k, word_is, ← ap (λ (a : Seen). a.wide) seen_is, ap (λ (a : Seen). a.touch) seen_is, e)
+      record_done e q =
+          let i = seen_narrow (wide (cpu_of s) s.regs (word_in m0)) (touched (cpu_of s) s.regs (word_in m0)) seen_is e in
+          q ∙ rw (eq-eqb _ _ k, word_is, i.0, i.1)

@@ -1,5 +1,5 @@
 -- A step of ours that is not refused for want of room is a step of the definition's machine on the memory that the pages mean.
-use Rattle.std.proofs.Common.{◌≡◌, ℕ, ◌+◌, ◌^◌, ◌<◌, ◌≤◌, Bool, true, false, cond, not, ltb, leb, List, [], ◌++◌, length, sym, refl, ap, ◌∙◌, arith, ltb-false, le-ltb, le-leb, leb-true, Result, Ok, Err}
+use Rattle.std.proofs.Common.{◌≡◌, ℕ, ◌+◌, ◌^◌, ◌<◌, ◌≤◌, Bool, true, false, cond, not, ltb, leb, List, [], ◌++◌, length, sym, refl, ap, ◌∙◌, arith, ltb-false, le-ltb, le-leb, leb-true, Result, Ok, Err, Option, Some, None}
 use Rattle.std.specs.Prelude.{Ok, Err}
 use mathlib.Core.Path.{fun_ext}
 use lib.Seq.{sets}
@@ -15,16 +15,12 @@ use Rattle.interpreter.specs.Effects.{Effect}
 use Rattle.interpreter.specs.declared.effect.Stop.TheVariants.{Refused as RefusedBy, Call as CallBy}
 use Rattle.interpreter.specs.declared.effect.Refusal.{Refusal}
 use Rattle.interpreter.specs.declared.effect.Refusal.TheVariants.{BadMachine, PcMisaligned, Reserved, DelaySlot, DivideByZero, Overflow, AddressError, MemoryFull, NoRoom, NoInput, InputOffset, HintShort, HintText}
-use Rattle.interpreter.specs.declared.effect.Touch.{Touch}
 use Rattle.interpreter.specs.declared.state.Cpu.{Cpu}
 use Rattle.interpreter.specs.declared.step.Answer.{Answer}
 use Rattle.interpreter.specs.declared.step.Answer.TheVariants.{Stepped, Wrote, Hint, Exited, Refused}
 use Rattle.interpreter.specs.declared.linux.Call.{Call}
 use Rattle.interpreter.specs.declared.linux.Call.TheVariants.{Answer as Reply, Heap, Exit, Key, Input, Write, Hint as HintWrite}
-use Rattle.interpreter.specs.declared.hint.Heard.{Heard}
-use Rattle.interpreter.specs.declared.hint.Heard.TheVariants.{Keep, HandOut, Refuse}
 use Rattle.interpreter.specs.declared.input.Entry.{Entry}
-use Rattle.interpreter.specs.declared.input.Entry.TheVariants.{At, Absent}
 use Rattle.interpreter.specs.Machine.{Machine, reg, counted, hint_room, room_of, bad}
 use Rattle.interpreter.specs.Utf8.{utf8}
 use Rattle.interpreter.specs.Inputs.{entry_of}
@@ -67,8 +63,8 @@ module _ (c : Cpu) (r k : List ℕ) (m : Memory) (h x d : List ℕ) where
     unfolding heard hinted
     heard_agrees t = go (ltb (length t) 4) (ltb (length t) (4 + announced t)) (ltb (4 + announced t) (length t)) (not (utf8 (text_of t))) (f (announced t))
       where
-        g : Bool → Bool → Bool → Bool → Bool → Heard
-        g a b c d e = cond a Keep (cond b (Refuse HintShort) (cond c Keep (cond d (Refuse HintText) (cond (not e) (Refuse NoRoom) (HandOut (announced t))))))
+        g : Bool → Bool → Bool → Bool → Bool → Result (Option ℕ) Refusal
+        g a b c d e = cond a (Ok None) (cond b (Err HintShort) (cond c (Ok None) (cond d (Err HintText) (cond (not e) (Err NoRoom) (Ok (Some (announced t)))))))
 
         go : (a b c d e : Bool) → Agree (hearing ours t (g a b c d e)) (hearing free t (g a b c d true))
         go true b c d e = same refl
@@ -90,10 +86,10 @@ module _ (c : Cpu) (r k : List ℕ) (m : Memory) (h x d : List ℕ) where
             let i : length h + a2 free ≤ n = ltb-false n (length h + a2 free) e in
             rw (le-ltb 65536 (length h + a2 free) (omega arith)) (heard_agrees (together free))
 
-    reading_at_lem : (e : Entry) → Agree (reading_at ours e) (reading_at free e)
+    reading_at_lem : (e : Option Entry) → Agree (reading_at ours e) (reading_at free e)
     unfolding reading_in read
-    reading_at_lem Absent = same refl
-    reading_at_lem (At start n) = same refl
+    reading_at_lem None = same refl
+    reading_at_lem (Some e) = same refl
 
     call_agrees : (e : Call) → Agree (calling ours e) (calling free e)
     unfolding calling reading replying exiting keying
@@ -105,7 +101,7 @@ module _ (c : Cpu) (r k : List ℕ) (m : Memory) (h x d : List ℕ) where
     call_agrees (Write s) = write_agrees s
     call_agrees HintWrite = hint_agrees
 
-    planned_agrees : (t : Touch) (e : Effect) → Agree (planned ours t e) (planned free t e)
+    planned_agrees : (t : Option ℕ) (e : Effect) → Agree (planned ours t e) (planned free t e)
     unfolding planned changing
     planned_agrees t (Err (RefusedBy e)) = same refl
     planned_agrees t (Err CallBy) = call_agrees (call_in c r)

@@ -1,11 +1,10 @@
 -- The step repeated: what the loop keeps, and document 01's wording.
-use Rattle.std.proofs.Common.{◌≡◌, ℕ, zero, suc, ◌+◌, ◌-◌, ◌<◌, ◌≤◌, Bool, true, false, cond, not, ◌&&◌, ltb, List, length, sym, refl, ap, ◌∙◌, add-zero, sub-one, arith, ltb-false, ltb-true, Result, Ok, Err}
+use Rattle.std.proofs.Common.{◌≡◌, ℕ, zero, suc, ◌+◌, ◌-◌, ◌<◌, ◌≤◌, Bool, true, false, cond, not, ◌&&◌, ltb, List, length, sym, refl, ap, ◌∙◌, add-zero, sub-one, arith, ltb-false, ltb-true, Result, Ok, Err, Option, Some, None}
 use Rattle.std.specs.Prelude.{Ok, Err}
 use native.Mathlib.Nat.{sub-zero}
 use Rattle.pages.specs.declared.memory.StoreError.{StoreError}
 use Rattle.interpreter.specs.Effects.{Effect}
 use Rattle.interpreter.specs.declared.effect.Stop.TheVariants.{Refused as RefusedBy, Call as CallBy}
-use Rattle.interpreter.specs.declared.effect.Touch.{Touch}
 use Rattle.interpreter.specs.declared.effect.Refusal.{Refusal}
 use Rattle.interpreter.specs.declared.effect.Refusal.TheVariants.{BadMachine, NoRoom}
 use Rattle.interpreter.specs.declared.state.Cpu.{Cpu}
@@ -15,10 +14,7 @@ use Rattle.interpreter.specs.declared.step.Answer.TheVariants.{Stepped, Wrote, H
 use Rattle.interpreter.specs.declared.run.Reached.{Reached}
 use Rattle.interpreter.specs.declared.linux.Call.{Call}
 use Rattle.interpreter.specs.declared.linux.Call.TheVariants.{Answer as Reply, Heap, Exit, Key, Input, Write, Hint as HintWrite}
-use Rattle.interpreter.specs.declared.hint.Heard.{Heard}
-use Rattle.interpreter.specs.declared.hint.Heard.TheVariants.{Keep, HandOut, Refuse}
 use Rattle.interpreter.specs.declared.input.Entry.{Entry}
-use Rattle.interpreter.specs.declared.input.Entry.TheVariants.{At, Absent}
 use Rattle.interpreter.specs.Machine.{Machine, machine, cpu_of, state_of, counted, bad}
 use Rattle.interpreter.specs.Inputs.{entry_of, inside, part_of}
 use Rattle.interpreter.specs.Hints.{heard}
@@ -109,18 +105,18 @@ cond_unrefused true g h = g
 cond_unrefused false g h = h
 
 module _ (v : View) where
-  reading_unrefused : (e : Entry) → Unrefused (reading_at v e)
+  reading_unrefused : (e : Option Entry) → Unrefused (reading_at v e)
   unfolding reading_in read
-  reading_unrefused Absent = refuse_unrefused _
-  reading_unrefused (At start n) =
-      cond_unrefused (inside v.input start n)
-      (cond_unrefused (ltb (8 + length (part_of v.input start n)) v.cpu.offset) (refuse_unrefused _) (unrefused refl)) (refuse_unrefused _)
+  reading_unrefused None = refuse_unrefused _
+  reading_unrefused (Some e) =
+      cond_unrefused (inside v.input e.start e.length)
+      (cond_unrefused (ltb (8 + length (part_of v.input e.start e.length)) v.cpu.offset) (refuse_unrefused _) (unrefused refl)) (refuse_unrefused _)
 
-  hearing_unrefused : (t : List ℕ) (g : Heard) → Unrefused (hearing v t g)
+  hearing_unrefused : (t : List ℕ) (g : Result (Option ℕ) Refusal) → Unrefused (hearing v t g)
   unfolding hinted
-  hearing_unrefused t (Refuse n) = refuse_unrefused n
-  hearing_unrefused t Keep = unrefused refl
-  hearing_unrefused t (HandOut n) = unrefused refl
+  hearing_unrefused t (Err n) = refuse_unrefused n
+  hearing_unrefused t (Ok None) = unrefused refl
+  hearing_unrefused t (Ok (Some n)) = unrefused refl
 
   calling_unrefused : (c : Call) → Unrefused (calling v c)
   unfolding calling replying exiting keying writing wrote hinting reading
@@ -133,7 +129,7 @@ module _ (v : View) where
   calling_unrefused HintWrite =
       cond_unrefused (ltb v.room (length v.held + a2 v)) (refuse_unrefused NoRoom) (hearing_unrefused (together v) (heard (together v) v.fits))
 
-  planned_unrefused : (t : Touch) (e : Effect) → Unrefused (planned v t e)
+  planned_unrefused : (t : Option ℕ) (e : Effect) → Unrefused (planned v t e)
   unfolding planned changing
   planned_unrefused t (Err (RefusedBy n)) = refuse_unrefused n
   planned_unrefused t (Err CallBy) = calling_unrefused (call_in v.cpu v.regs)

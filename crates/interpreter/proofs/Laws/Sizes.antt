@@ -1,5 +1,5 @@
 -- Every step keeps its pages bytes, and its state within what 360 bytes can say.
-use Rattle.std.proofs.Common.{◌≡◌, ℕ, ◌+◌, ◌-◌, ◌%◌, ◌^◌, ◌<◌, Bool, true, false, cond, eqb, ltb, List, length, set, refl, ◌∙◌, mod-lt, arith, lit<, length-set, get_or-set_other, get_or-set_same, Result, Ok, Err}
+use Rattle.std.proofs.Common.{◌≡◌, ℕ, ◌+◌, ◌-◌, ◌%◌, ◌^◌, ◌<◌, Bool, true, false, cond, eqb, ltb, List, length, set, refl, ◌∙◌, mod-lt, arith, lit<, length-set, get_or-set_other, get_or-set_same, Result, Ok, Err, Option, Some, None}
 use Rattle.std.specs.Prelude.{Ok, Err}
 use native.Mathlib.Decide.{dec_lt, ℕ_discrete}
 use lib.Seq.{set_out}
@@ -13,8 +13,6 @@ use Rattle.interpreter.specs.declared.effect.Change.{Change}
 use Rattle.interpreter.specs.declared.effect.Ins.{Ins}
 use Rattle.interpreter.specs.Effects.{Effect}
 use Rattle.interpreter.specs.declared.effect.Stop.TheVariants.{Refused, Call as CallBy}
-use Rattle.interpreter.specs.declared.effect.Touch.{Touch}
-use Rattle.interpreter.specs.declared.effect.Touch.TheVariants.{Nothing, Eight}
 use Rattle.interpreter.specs.declared.effect.Refusal.{Refusal}
 use Rattle.interpreter.specs.declared.effect.Refusal.TheVariants.{BadMachine}
 use Rattle.interpreter.specs.declared.state.Cpu.{Cpu}
@@ -22,10 +20,7 @@ use Rattle.interpreter.specs.declared.step.Answer.{Answer}
 use Rattle.interpreter.specs.declared.step.Answer.TheVariants.{Exited}
 use Rattle.interpreter.specs.declared.linux.Call.{Call}
 use Rattle.interpreter.specs.declared.linux.Call.TheVariants.{Answer as Reply, Heap, Exit, Key, Input, Write, Hint}
-use Rattle.interpreter.specs.declared.hint.Heard.{Heard}
-use Rattle.interpreter.specs.declared.hint.Heard.TheVariants.{Keep, HandOut, Refuse}
 use Rattle.interpreter.specs.declared.input.Entry.{Entry}
-use Rattle.interpreter.specs.declared.input.Entry.TheVariants.{At, Absent}
 use Rattle.interpreter.specs.Isa.{rs_of, rt_of}
 use Rattle.interpreter.specs.Words.{word}
 use Rattle.interpreter.specs.Kernel.{kernel_def}
@@ -243,7 +238,7 @@ cond_fine true g h = g
 cond_fine false g h = h
 
 module _ (v : View) (z : Sized v.cpu v.regs v.key) (b : (a : ℕ) → v.memory a < 256) where
-  change_fine : (t : Touch) (e : Change) → Bounded e → Fine (does (changing v t e))
+  change_fine : (t : Option ℕ) (e : Change) → Bounded e → Fine (does (changing v t e))
   unfolding changing
   change_fine t e g =
       fine (record { cpu = changed_numbers v.cpu e z.cpu g; regs = written_registers v.regs e.dest e.value z.regs g.value; key = z.key })
@@ -297,18 +292,18 @@ module _ (v : View) (z : Sized v.cpu v.regs v.key) (b : (a : ℕ) → v.memory a
   unfolding reading_in
   reading_in_fine t = cond_fine (ltb (8 + length t) v.cpu.offset) (refuse_fine _) (read_fine t _ (moving_lt (length t)))
 
-  reading_at_fine : (e : Entry) → Fine (reading_at v e)
-  reading_at_fine Absent = refuse_fine _
-  reading_at_fine (At start n) = cond_fine (inside v.input start n) (reading_in_fine (part_of v.input start n)) (refuse_fine _)
+  reading_at_fine : (e : Option Entry) → Fine (reading_at v e)
+  reading_at_fine None = refuse_fine _
+  reading_at_fine (Some e) = cond_fine (inside v.input e.start e.length) (reading_in_fine (part_of v.input e.start e.length)) (refuse_fine _)
 
   hinted_fine : (r : Answer) (n : ℕ) (text : List ℕ) → Fine (does (hinted v r n text))
   unfolding hinted
   hinted_fine r n text = fine (record { cpu = onward_same n; regs = answered (a2 v) a2_lt; key = z.key })
 
-  hearing_fine : (t : List ℕ) (g : Heard) → Fine (hearing v t g)
-  hearing_fine t (Refuse n) = refuse_fine n
-  hearing_fine t Keep = hinted_fine _ _ _
-  hearing_fine t (HandOut n) = hinted_fine _ _ _
+  hearing_fine : (t : List ℕ) (g : Result (Option ℕ) Refusal) → Fine (hearing v t g)
+  hearing_fine t (Err n) = refuse_fine n
+  hearing_fine t (Ok None) = hinted_fine _ _ _
+  hearing_fine t (Ok (Some n)) = hinted_fine _ _ _
 
   hinting_fine : Fine (hinting v)
   unfolding hinting
@@ -325,22 +320,22 @@ module _ (v : View) (z : Sized v.cpu v.regs v.key) (b : (a : ℕ) → v.memory a
   calling_fine (Write s) m = write_fine s
   calling_fine Hint m = hinting_fine
 
-  planned_fine : (t : Touch) (e : Effect) → ((a : Change) → e ≡ Ok a → Bounded a) → Fine (planned v t e)
+  planned_fine : (t : Option ℕ) (e : Effect) → ((a : Change) → e ≡ Ok a → Bounded a) → Fine (planned v t e)
   unfolding planned
   planned_fine t (Err (Refused n)) h = refuse_fine n
   planned_fine t (Err CallBy) h = calling_fine (call_in v.cpu v.regs) (call_modest v.cpu v.regs z.regs)
   planned_fine t (Ok e) h = change_fine t e (h e refl)
 
-  eight_lt : (t : Touch) → eight_at v.memory t < 2 ^ 64
-  eight_lt Nothing = lit< tt
-  eight_lt (Eight a) = big_lt 8 v.memory a b
+  eight_lt : (t : Option ℕ) → eight_at v.memory t < 2 ^ 64
+  eight_lt None = lit< tt
+  eight_lt (Some a) = big_lt 8 v.memory a b
 
   ins_small : (w x : ℕ) → x < 2 ^ 64 → Small (ins_of v.cpu v.regs w x)
   unfolding ins_of
   ins_small w x h =
       record { rs = z.regs.values (rs_of w); rt = z.regs.values (rt_of w); pc = z.cpu.pc; next = z.cpu.next; hi = z.cpu.hi; lo = z.cpu.lo; mem = h }
 
-  executing_fine : (w : ℕ) (t : Touch) → Fine (executing v w t)
+  executing_fine : (w : ℕ) (t : Option ℕ) → Fine (executing v w t)
   unfolding executing
   executing_fine w t =
       let i : Ins = ins_of v.cpu v.regs w (eight_at v.memory t) in

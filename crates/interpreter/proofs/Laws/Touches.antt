@@ -1,11 +1,10 @@
 -- Which instructions touch eight bytes, by the opcode field.
-use Rattle.std.proofs.Common.{◌≡◌, ℕ, zero, suc, ◌<◌, Bool, true, false, cond, not, ◌&&◌, ◌||◌, T, eqb, sym, refl, ◌∙◌, arith}
+use Rattle.std.proofs.Common.{◌≡◌, ℕ, zero, suc, ◌<◌, Bool, true, false, cond, not, ◌&&◌, ◌||◌, T, eqb, sym, refl, ◌∙◌, arith, Some, None}
 use Rattle.std.specs.Prelude.{Option, Some, None, is_some}
 use native.Mathlib.Decide.{ℕ_discrete}
 use Rattle.interpreter.specs.Isa.{funct_of, rt_of, Instruction, alu, imm, hilo, load, store, conditional, branch, jump, other, reserved}
 use Rattle.interpreter.specs.OpcodeMap.{find, found, accesses, immediates, loads, stores, conditionals, branches, jumps, memory, by_opcode, registers, special, special2, regimm, decode_by}
 use Rattle.interpreter.specs.Kernel.{touching}
-use Rattle.interpreter.specs.declared.effect.Touch.TheVariants.{Nothing, Eight}
 
 -- ---- a test that is computed at every number below n
 
@@ -32,33 +31,33 @@ at f (suc n) t k h = go (ℕ_discrete k n) (at f n (both_left (below f n) (f n) 
 -- ---- the other codes touch nothing
 
 nothing : {A : Type 0} (f : A → Instruction) (x : Option A) (rest : Instruction) (a : ℕ)
-    → ((y : A) → touching (f y) a ≡ Nothing) → touching rest a ≡ Nothing → touching (found f x rest) a ≡ Nothing
+    → ((y : A) → touching (f y) a ≡ None) → touching rest a ≡ None → touching (found f x rest) a ≡ None
 unfolding found
 nothing f (Some y) rest a h r = h y
 nothing f None rest a h r = r
 
 module _ (a : ℕ) where
-  pub special_nothing : (f : ℕ) → touching (special f) a ≡ Nothing
+  pub special_nothing : (f : ℕ) → touching (special f) a ≡ None
   unfolding special registers touching
   special_nothing f =
       nothing jump _ _ a (λ y. refl) (nothing other _ _ a (λ y. refl) (nothing hilo _ _ a (λ y. refl)
       (nothing alu _ _ a (λ y. refl) (nothing alu _ _ a (λ y. refl) (nothing alu _ _ a (λ y. refl) refl)))))
 
-  special2_nothing : (f : ℕ) → touching (special2 f) a ≡ Nothing
+  special2_nothing : (f : ℕ) → touching (special2 f) a ≡ None
   unfolding special2 touching
   special2_nothing f = nothing alu _ _ a (λ y. refl) refl
 
-  regimm_nothing : (t : ℕ) → touching (regimm t) a ≡ Nothing
+  regimm_nothing : (t : ℕ) → touching (regimm t) a ≡ None
   unfolding regimm touching
   regimm_nothing t = nothing branch _ _ a (λ y. refl) refl
 
   -- a load or store, unless a list before has the code
-  memory_touches : (op : ℕ) → touching (memory op) a ≡ cond (accesses op) (Eight a) Nothing
+  memory_touches : (op : ℕ) → touching (memory op) a ≡ cond (accesses op) (Some a) None
   unfolding memory accesses touching found
   memory_touches op = go (find op loads) (find op stores) (find op conditionals)
     where
       go : (l : Option _) (s : Option _) (c : Option _)
-          → touching (found load l (found store s (found conditional c reserved))) a ≡ cond (is_some l || (is_some s || is_some c)) (Eight a) Nothing
+          → touching (found load l (found store s (found conditional c reserved))) a ≡ cond (is_some l || (is_some s || is_some c)) (Some a) None
       go (Some l) s c = refl
       go None (Some s) c = refl
       go None None (Some c) = refl
@@ -85,24 +84,24 @@ none_of (Some y) t = absurd t
 none_of None t = refl
 
 module _ (op w a : ℕ) where
-  quiet : accesses op ≡ false → touching (decode_by op w) a ≡ Nothing
+  quiet : accesses op ≡ false → touching (decode_by op w) a ≡ None
   unfolding decode_by by_opcode touching
   quiet q = go (eqb op 0x00) (eqb op 0x01) (eqb op 0x1c)
     where
-      rest : touching (found jump (find op jumps) (found branch (find op branches) (found imm (find op immediates) (memory op)))) a ≡ Nothing
+      rest : touching (found jump (find op jumps) (found branch (find op branches) (found imm (find op immediates) (memory op)))) a ≡ None
       rest =
           nothing jump _ _ a (λ y. refl) (nothing branch _ _ a (λ y. refl) (nothing imm _ _ a (λ y. refl)
           (memory_touches a op ∙ rw q)))
 
       go : (s r t : Bool)
           → touching (cond s (special (funct_of w)) (cond r (regimm (rt_of w)) (cond t (special2 (funct_of w)) (found jump (find op jumps) (found branch (find op branches) (found imm (find op immediates) (memory op))))))) a
-          ≡ Nothing
+          ≡ None
       go true r t = special_nothing a (funct_of w)
       go false true t = regimm_nothing a (rt_of w)
       go false false true = special2_nothing a (funct_of w)
       go false false false = rest
 
-  loud : accesses op ≡ true → T (alone op) → touching (decode_by op w) a ≡ Eight a
+  loud : accesses op ≡ true → T (alone op) → touching (decode_by op w) a ≡ Some a
   unfolding alone decode_by by_opcode found
   loud q t =
       let u = rw q at t in
@@ -118,6 +117,6 @@ module _ (op w a : ℕ) where
       let n2 : find op immediates ≡ None = none_of (find op immediates) (both_right (not (is_some (find op branches))) _ z) in
       rw (e0, e1, e2, n0, n1, n2) (memory_touches a op ∙ rw q)
 
-  pub touches_by : op < 64 → (b : Bool) → b ≡ accesses op → touching (decode_by op w) a ≡ cond b (Eight a) Nothing
+  pub touches_by : op < 64 → (b : Bool) → b ≡ accesses op → touching (decode_by op w) a ≡ cond b (Some a) None
   touches_by h true e = loud (sym e) (at alone 64 all_alone op h)
   touches_by h false e = quiet (sym e)

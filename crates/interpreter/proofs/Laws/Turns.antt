@@ -1,5 +1,5 @@
 -- Many steps in a row: from the parts of a quick step to the definition's, and how the steps add up.
-use Rattle.std.proofs.Common.{◌≡◌, ℕ, zero, suc, ◌+◌, ◌-◌, ◌*◌, ◌/◌, ◌%◌, ◌^◌, ◌<◌, true, false, List, sym, refl, ap, ◌∙◌, add-one, arith, eq-eqb, Ok}
+use Rattle.std.proofs.Common.{◌≡◌, ℕ, zero, suc, ◌+◌, ◌-◌, ◌*◌, ◌/◌, ◌%◌, ◌^◌, ◌<◌, true, false, List, sym, refl, ap, ◌∙◌, add-one, arith, eq-eqb, Ok, Option, Some, None}
 use Rattle.std.specs.Prelude.{Option, Some, Ok}
 use Rattle.pages.specs.Bytes.{big}
 use Rattle.pages.specs.Pages.{byte_at}
@@ -7,8 +7,6 @@ use Rattle.pages.specs.Calls.{stored}
 use Rattle.interpreter.specs.declared.effect.Ins.{Ins}
 use Rattle.interpreter.specs.declared.effect.Change.{Change}
 use Rattle.interpreter.specs.Effects.{Effect, seeing}
-use Rattle.interpreter.specs.declared.effect.Touch.{Touch}
-use Rattle.interpreter.specs.declared.effect.Touch.TheVariants.{Nothing, Eight}
 use Rattle.interpreter.specs.declared.state.Cpu.{Cpu}
 use Rattle.interpreter.specs.declared.quick.Core.{Core}
 use Rattle.interpreter.specs.declared.quick.Turn.{Turn}
@@ -60,7 +58,7 @@ module _ (c : Cpu) (k : Core) (r : List ℕ) (w y : ℕ) {b : Cpu} {i : Ins} (z1
   unfolding Quiet Agrees
   quiet_kernel h a g = quick_kernel h (λ e q. (a e q).0) g
 
-  pub quiet_touch : {f : Option Change} {e : Change} → Quiet f i → f ≡ Some e → Nothing ≡ touch_of r w
+  pub quiet_touch : {f : Option Change} {e : Change} → Quiet f i → f ≡ Some e → None ≡ touch_of r w
   unfolding Quiet touch_of touch_def ins_of
   quiet_touch {e = e} a g = sym (ap (λ n. touching (decode n.word) (address_of w (reg r (rs_of w)) / 8 * 8)) (sym ins_is) ∙ (a e g).1 _)
 
@@ -76,22 +74,22 @@ module _ (c : Cpu) (k : Core) (r : List ℕ) (w y : ℕ) {b : Cpu} {i : Ins} (z1
       rw (← seeing_is x) (aligned_kernel (seeing i x) (rw ins_is (ins_pc c k r w y h)) (λ e q. (a e q).0) g)
 
   module _ (p : List ℕ) (u : ℕ) (v : Window) {f : Option Change} {e : Change} (a : Reaches p u v i f) (g : f ≡ Some e) {o : ℕ} (z : o ≡ address_of i.word i.rs) where
-    pub reach_touch : Eight (o / 8 * 8) ≡ touch_of r w
+    pub reach_touch : Some (o / 8 * 8) ≡ touch_of r w
     unfolding Reaches touch_of touch_def ins_of
-    reach_touch = ap (λ (x : ℕ). Eight (x / 8 * 8)) z ∙ sym ((a e g).1 (eight_of i)) ∙ ap (λ n. touching (decode n.word) (eight_of n)) ins_is
+    reach_touch = ap (λ (x : ℕ). Some (x / 8 * 8)) z ∙ sym ((a e g).1 (eight_of i)) ∙ ap (λ n. touching (decode n.word) (eight_of n)) ins_is
 
-    pub reach_covered : covered v (Eight (o / 8 * 8)) ≡ true
+    pub reach_covered : covered v (Some (o / 8 * 8)) ≡ true
     unfolding Reaches
     reach_covered = eq-eqb _ _ (ap (λ (x : ℕ). x / 8 * 8 / 4096) z ∙ (a e g).2)
 
-    pub reach_eight : big 8 (byte_at p u) (eight_of i) ≡ eight_at (byte_at p u) (Eight (o / 8 * 8))
+    pub reach_eight : big 8 (byte_at p u) (eight_of i) ≡ eight_at (byte_at p u) (Some (o / 8 * 8))
     reach_eight = ap (λ (x : ℕ). big 8 (byte_at p u) (x / 8 * 8)) (sym z)
 
   pub ins_key : {n : ℕ} → n ≡ key_of w → n ≡ key_of i.word
   unfolding ins_of
   ins_key h = h ∙ ap (λ (x : Ins). key_of x.word) (sym ins_is)
 
-module _ (c : Cpu) (k : Core) (w u : ℕ) (r p : List ℕ) {t : Touch} {y : ℕ} {e : Change} {b : Pair} where
+module _ (c : Cpu) (k : Core) (w u : ℕ) (r p : List ℕ) {t : Option ℕ} {y : ℕ} {e : Change} {b : Pair} where
   pub turned : t ≡ touch_of r w → y ≡ eight_at (byte_at p u) t → kernel_def (ins_of (cpu_with c k 0) r w y) ≡ Ok e → Both p u b
       → {q : Turn} {r' p' : List ℕ} → Completed r p u b t e q r' p' → Turned c k w u r p q r' p'
   unfolding ins_of counted changed cpu_with core_after later
@@ -101,7 +99,7 @@ module _ (c : Cpu) (k : Core) (w u : ℕ) (r p : List ℕ) {t : Touch} {y : ℕ}
       (change_done (counted (cpu_with c k n)) r a u p h o x d t e g.pages refl g.regs (rw (g.core, add-one)) refl))
 
 -- the same with what was stored
-pub completed : {r p : List ℕ} {u : ℕ} {b : Pair} {t : Touch} {e : Change} {q : Turn} {r' p' : List ℕ} → ((s : List ℕ) (n : ℕ) → Completed r s n b Nothing e q r' s) → stored (Ok u) p' ≡ putting p u (storing t e)
+pub completed : {r p : List ℕ} {u : ℕ} {b : Pair} {t : Option ℕ} {e : Change} {q : Turn} {r' p' : List ℕ} → ((s : List ℕ) (n : ℕ) → Completed r s n b None e q r' s) → stored (Ok u) p' ≡ putting p u (storing t e)
     → ((v : Window) → Shows p u v → Shows p' u v) → Completed r p u b t e q r' p'
 completed {p = p} {u = u} f g h = let z = f p u in record { made = z.made; core = z.core; window = z.window; regs = z.regs; pages = g; kept = h }
 

@@ -1,5 +1,5 @@
 -- The page that was looked up last.
-use Rattle.std.proofs.Common.{◌≡◌, ℕ, ◌+◌, ◌-◌, ◌*◌, ◌/◌, ◌%◌, ◌^◌, ◌<◌, ◌≤◌, true, List, ◌++◌, length, take, drop, sym, ap, ◌∙◌, arith, eqb-true, Ok, Some}
+use Rattle.std.proofs.Common.{◌≡◌, ℕ, ◌+◌, ◌-◌, ◌*◌, ◌/◌, ◌%◌, ◌^◌, ◌<◌, ◌≤◌, true, List, ◌++◌, length, take, drop, sym, ap, ◌∙◌, arith, eqb-true, Ok, Some, Option}
 use lib.Seq.{sets}
 use Rattle.pages.specs.Bytes.{cell, big, bytes_of}
 use Rattle.pages.specs.Pages.{lookup, byte_at}
@@ -7,8 +7,6 @@ use Rattle.pages.specs.Calls.{number_at, put_def, stored, set_def}
 use Rattle.pages.proofs.Laws.Numbers.{length_bytes}
 use Rattle.pages.proofs.Laws.Places.{part_read, part_write}
 use Rattle.pages.proofs.Laws.Found.{found_room, found_number, found_store, found_kept}
-use Rattle.interpreter.specs.declared.effect.Touch.{Touch}
-use Rattle.interpreter.specs.declared.effect.Touch.TheVariants.{Eight}
 use Rattle.interpreter.specs.Parts.{Shows, nowhere, standing, covered}
 use Rattle.interpreter.specs.declared.window.Window.{Window}
 
@@ -55,5 +53,5 @@ module _ (p : List ℕ) (u : ℕ) (w : Window) (a : ℕ) (small : a < 2 ^ 64) (e
       (rw k (window_store v h s), λ z g. rw k (window_kept v h s z g))
 
 -- touched eight bytes that are covered lie in the page
-pub covered_at : (w : Window) {t : Touch} (a : ℕ) → t ≡ Eight a → covered w t ≡ true → a / 4096 ≡ w.number
+pub covered_at : (w : Window) {t : Option ℕ} (a : ℕ) → t ≡ Some a → covered w t ≡ true → a / 4096 ≡ w.number
 covered_at w a e h = eqb-true _ _ (sym (ap (covered w) e) ∙ h)

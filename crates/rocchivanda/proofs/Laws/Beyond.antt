@@ -1,18 +1,12 @@
 -- Refusal 1 changes no byte of the state, whichever test gives it.
-use mathlib.Core.Path.{◌≡◌, refl, sym, ap, ◌∙◌}
-use mathlib.Core.Bool.{Bool, true, false, ◌&&◌, ◌||◌, not, cond}
-use mathlib.Core.List.{List}
-use Prim.Native.Nat.{ℕ, zero, suc, ◌≤◌}
-use native.Mathlib.Omega.{arith}
-use lib.Dec.{eqb, leb, ltb}
-use lib.ListN.{length}
-use borrow.Author.Tests.{le-leb, lt-ltb, ltb-true, ne_eqb}
+use Rattle.std.proofs.Common.{◌≡◌, refl, sym, ap, ◌∙◌, Bool, true, false, ◌&&◌, ◌||◌, not, cond, List, ℕ, zero, suc, ◌≤◌, arith, eqb, leb, ltb, length, le-leb, lt-ltb, ltb-true, ne_eqb, Option, Some, None, is_some}
 use Rattle.pages.specs.Bytes.{cell, big}
 use Rattle.interpreter.specs.declared.effect.Refusal.TheVariants.{BadMachine}
 use Rattle.interpreter.specs.declared.state.Cpu.{Cpu}
+use Rattle.interpreter.specs.declared.state.State.{State}
 use Rattle.interpreter.specs.declared.step.Answer.{Answer}
 use Rattle.interpreter.specs.declared.step.Answer.TheVariants.{Stepped, Refused}
-use Rattle.interpreter.specs.Machine.{Machine, largest_rules, hint_room, formless, room_of, bad, cpu_of}
+use Rattle.interpreter.specs.Machine.{Machine, largest_rules, hint_room, formless, room_of, bad, cpu_of, state_of}
 use Rattle.interpreter.specs.Layout.{encode, decode_at, formed_at, decode_def}
 use Rattle.interpreter.specs.Step.{Left, refused, step_def}
 use Rattle.interpreter.specs.Recording.{wide, state_in, word_in, record_from, recorded, recording, recorded_def}
@@ -21,18 +15,18 @@ use Rattle.interpreter.proofs.Laws.Tests.{no_true}
 use Rattle.pages.proofs.Laws.Runs.{Bytes}
 use Rattle.interpreter.proofs.Laws.Hints.{room_fits}
 use Rattle.interpreter.proofs.Laws.Kept.{bad_step}
-use Rattle.interpreter.proofs.Laws.Layout.{state_parts, valid_formed}
+use Rattle.interpreter.proofs.Laws.Layout.{state_parts, some_formed}
 use Rattle.interpreter.proofs.Laws.Codec.{decode_out, encode_decode}
-use Rattle.rocchivanda.proofs.Laws.Calls.{as_valid}
 use Rattle.rocchivanda.specs.Calls.{Lent, well_formed, machine_in, ends, calling, step_call, idle, run_call, filed, record_call}
 
 -- a state that was decoded is written back as it was
-pub same_state_lem : (l : Lent) → Bytes l.state → (decode_def l.state).formed ≡ true → encode (state_in (machine_in l)) ≡ l.state
+pub same_state_lem : (l : Lent) → Bytes l.state → is_some (decode_def l.state) ≡ true → encode (state_in (machine_in l)) ≡ l.state
 unfolding machine_in
-same_state_lem l small f =
-    let s = l.state in
-    let e = as_valid (decode_def s) f in
-    rw (state_parts (decode_at s 0), (decode_out s (decode_def s).state e).state) (encode_decode s small (decode_def s).state e)
+same_state_lem l small f = go (decode_def l.state) refl f
+  where
+    go : (t : Option State) → decode_def l.state ≡ t → is_some t ≡ true → encode (state_of (cpu_of (decode_at l.state 0)) (decode_at l.state 0).regs (decode_at l.state 0).key) ≡ l.state
+    go (Some s) e f = rw (state_parts (decode_at l.state 0), (decode_out l.state s e).state) (encode_decode l.state small s e)
+    go None e f = no_true (sym f)
 
 -- ---- well-formed bytes that `decode_def` takes for no state: their rules are above 1 or their hint length is above 65,536
 
@@ -71,10 +65,10 @@ record_bad x d m b e = rw (bad_step x d m e) (unrecorded (eqb (length b) 752) (w
 
 -- the step refuses such a state, so the calls leave what they would leave if these bytes were decoded too
 
-module _ (l : Lent) (well : well_formed l.state ≡ true) (none : (decode_def l.state).formed ≡ false) where
+module _ (l : Lent) (well : well_formed l.state ≡ true) (none : is_some (decode_def l.state) ≡ false) where
   formless_in : formless hint_room (cpu_of (decode_at l.state 0)) ≡ true
   unfolding well_formed decode_def formed_at
-  formless_in = let s = l.state in formless_by (eqb (length s) 360) (leb (cell s 352) 1) (eqb (big 5 (cell s) 355) 0) _ well (sym (valid_formed _ (decode_at s 0)) ∙ none)
+  formless_in = let s = l.state in formless_by (eqb (length s) 360) (leb (cell s 352) 1) (eqb (big 5 (cell s) 355) 0) _ well (sym (some_formed _ (decode_at s 0)) ∙ none)
 
   bad_in : bad (machine_in l) ≡ true
   unfolding bad machine_in

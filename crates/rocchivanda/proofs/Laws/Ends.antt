@@ -1,12 +1,6 @@
 -- How a call ends: the entries, the state's bytes, the result.
-use mathlib.Core.Path.{◌≡◌, refl, sym, ap, ◌∙◌}
-use mathlib.Core.Bool.{Bool, true, false}
-use mathlib.Core.List.{List}
-use Prim.Native.Nat.{ℕ, ◌≤◌, ◌<◌}
-use native.Mathlib.Omega.{arith}
-use lib.Dec.{eqb}
-use lib.ListN.{length, set}
-use borrow.Author.Tests.{le-leb, lt-leb, eq-eqb, ne_eqb, eqb-true, eqb-false}
+use Rattle.std.proofs.Common.{◌≡◌, refl, sym, ap, ◌∙◌, Bool, true, false, List, ℕ, ◌≤◌, ◌<◌, arith, eqb, length, set, le-leb, eq-eqb, ne_eqb, eqb-true}
+use Rattle.std.proofs.lemmas.Bool.{lt-leb, eqb-false}
 use Rattle.pages.specs.Bytes.{cell, big}
 use Rattle.pages.specs.Calls.{number_at, copy_def}
 use Rattle.pages.proofs.Laws.Places.{number_fits, copy_fits, sets_whole, row_whole}
@@ -21,7 +15,7 @@ use Rattle.interpreter.specs.Layout.{encode}
 use Rattle.interpreter.specs.Step.{Left, values_of}
 use Rattle.interpreter.specs.Runs.{ran, ended, stopped}
 use Rattle.interpreter.proofs.Laws.Layout.{length_encode, state_parts, spare_four, spare_last, spare_none}
-use Rattle.checker.specs.declared.verdict.Verdict.{Verdict}
+use Rattle.checker.specs.Verdicts.{Verdict}
 use Rattle.checker.specs.Check.{check_def}
 use Rattle.rocchivanda.specs.Calls.{lent, called, well_formed, machine_in, told, ends, leaves, stays, idle, verdict_number, check_call}
 

@@ -4,11 +4,11 @@ use Rattle.rocchivanda.proofs.rocchivanda_step.Goals as goal
 pub returns-then-answer-lt-COUNT : goal.returns-then-answer-lt-COUNT
 returns-then-answer-lt-COUNT c = step_few _ _ _ c.if-answer-lt-COUNT.true
 
-pub returns-then-not-start : goal.returns-then-not-start
-returns-then-not-start c = step_none _ _ _ c.if-answer-lt-COUNT.false c.decode-start.ensures c.if-not-start.true (c.refuse.ensures _ _ _ _)
+pub returns-in_default : goal.returns-in_default
+returns-in_default c = step_none _ _ _ c.if-answer-lt-COUNT.false c.decode.ensures c.in_default.is (c.refuse.ensures _ _ _ _)
 
 pub finish-requires : goal.finish-requires
-finish-requires c = ((decoded _ c.decode-start.ensures c.if-not-start.false).long, c.if-answer-lt-COUNT.false)
+finish-requires c = ((decoded _ c.decode.ensures c.in-Some.is).long, c.if-answer-lt-COUNT.false)
 
 pub returns : goal.returns
-returns c = step_done _ _ _ c.if-answer-lt-COUNT.false c.decode-start.ensures c.if-not-start.false c.used-used.ensures c.step-done.ensures (c.ended.ensures _ _ _) (c.finish.ensures _ _ _)
+returns c = step_done _ _ _ c.if-answer-lt-COUNT.false c.decode.ensures c.in-Some.is c.used-used.ensures c.step-done.ensures (c.ended.ensures _ _ _) (c.finish.ensures _ _ _)

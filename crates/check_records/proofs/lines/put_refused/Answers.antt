@@ -11,8 +11,8 @@ pub put_number-requires : goal.put_number-requires
 unfolding said
 put_number-requires c =
     let p = c.put-next.ensures in
-    omega (arith, p.place, puts_length p, ap (λ (z : ℕ). length (decimal z)) c.number.ensures, c.requires)
+    omega (arith, p.place, puts_length p, ap (λ (z : ℕ). length (decimal z)) c.from.ensures, c.requires)
 
 pub returns : goal.returns
 unfolding said
-returns c = rw (← c.number.ensures) (puts_then c.put-next.ensures c.put_number.ensures)
+returns c = rw (← c.from.ensures) (puts_then c.put-next.ensures c.put_number.ensures)

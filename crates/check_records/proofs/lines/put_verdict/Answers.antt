@@ -1,12 +1,12 @@
-use Rattle.checker.specs.declared.verdict.Verdict.{Verdict}
+use Rattle.checker.specs.Verdicts.{Verdict}
 use Rattle.std.proofs.Common.{length, ap, arith}
 use Rattle.check_records.specs.Lines.{said}
 use Rattle.check_records.proofs.lines.put_verdict.Goals as goal
 
 pub put-requires : goal.put-requires
 unfolding said
-put-requires c = omega (arith, ap (λ (z : Verdict). length (said z)) c.in-Accepted.is)
+put-requires c = omega (arith, ap (λ (z : Verdict). length (said z)) c.in-Ok.is)
 
-pub returns-in-Accepted : goal.returns-in-Accepted
+pub returns-in-Ok : goal.returns-in-Ok
 unfolding said
-returns-in-Accepted c = rw c.in-Accepted.is c.put.ensures
+returns-in-Ok c = rw c.in-Ok.is c.put.ensures

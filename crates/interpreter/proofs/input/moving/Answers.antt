@@ -3,4 +3,4 @@ use Rattle.interpreter.proofs.input.moving.Goals as goal
 
 pub returns : goal.returns
 unfolding moving
-returns c = simp (c.least-2.ensures, c.least.ensures, c.left.ensures)
+returns c = simp (c.min-2.ensures, c.min.ensures, c.left.ensures)

@@ -1,17 +1,7 @@
-use Rattle.std.proofs.Common.{refl, arith, length-set}
-use Rattle.interpreter.proofs.Laws.Inputs.{row_start, front_next, shifted_by}
+use Rattle.std.proofs.Common.{arith}
+use Rattle.interpreter.proofs.Laws.Inputs.{shifted_by}
 use Rattle.interpreter.proofs.input.shift_key.Goals as goal
-
-pub loop-i-init : goal.loop-i-init
-loop-i-init c = (omega arith, refl, refl, row_start _ _ _ _)
-
-pub loop-i-preserved : goal.loop-i-preserved
-loop-i-preserved c =
-    let l = c.loop-i in
-    (omega arith, simp length-set l.invariant.1, refl, front_next _ _ _ _ _ _ l.invariant.3 c.behind.ensures)
 
 pub returns : goal.returns
 returns c =
-    let l = c.loop-i in
-    let a = c.args in
-    shifted_by a.key.now c.spread-b.result _ _ _ _ _ _ c.loop-i-test.false l.invariant.0 l.invariant.2 c.spread-b.ensures l.invariant.3
+    shifted_by c.args.key.now _ _ _ _ _ _ (omega arith) (omega (arith, c.copy_within.ensures.len)) c.requires c.to_be_bytes.ensures (λ i h. c.copy_within.ensures.by_index.0 i 0 (omega arith) (omega arith)) c.copy.ensures

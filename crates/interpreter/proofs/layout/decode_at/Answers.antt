@@ -1,15 +1,15 @@
-use Rattle.std.proofs.Common.{◌∙◌, arith}
-use Rattle.interpreter.proofs.Laws.Layout.{decoded_short, decoded_valid, decoded_malformed}
+use Rattle.std.proofs.Common.{arith}
+use Rattle.interpreter.proofs.Laws.Layout.{decoded_short, decoded_valid, decoded_none}
 use Rattle.interpreter.proofs.layout.decode_at.Goals as goal
 
 pub returns-then-bytes-lt-SIZE : goal.returns-then-bytes-lt-SIZE
-returns-then-bytes-lt-SIZE c = c.malformed.ensures ∙ decoded_short _ _ (omega (arith, c.if-bytes-lt-SIZE.true))
+returns-then-bytes-lt-SIZE c = decoded_short _ _ (omega (arith, c.if-bytes-lt-SIZE.true))
 
 pub returns-then-bytes-at : goal.returns-then-bytes-at
-returns-then-bytes-at c = c.malformed-then-bytes-at.ensures ∙ decoded_short _ _ (omega (arith, c.if-bytes-at.true))
+returns-then-bytes-at c = decoded_short _ _ (omega (arith, c.if-bytes-at.true))
 
 pub returns-then-formed_at : goal.returns-then-formed_at
-returns-then-formed_at c = decoded_valid _ _ (omega (arith, c.if-bytes-at.false, c.if-bytes-lt-SIZE.false)) c.formed_at.ensures c.if-formed_at.true c.state_at-state.ensures
+returns-then-formed_at c = decoded_valid _ _ (omega (arith, c.if-bytes-at.false, c.if-bytes-lt-SIZE.false)) c.formed_at.ensures c.if-formed_at.true c.state_at.ensures
 
 pub returns : goal.returns
-returns c = c.malformed-2.ensures ∙ decoded_malformed _ _ (omega (arith, c.if-bytes-at.false, c.if-bytes-lt-SIZE.false)) c.formed_at.ensures c.if-formed_at.false
+returns c = decoded_none _ _ (omega (arith, c.if-bytes-at.false, c.if-bytes-lt-SIZE.false)) c.formed_at.ensures c.if-formed_at.false

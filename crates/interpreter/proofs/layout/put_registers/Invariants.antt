@@ -1,10 +1,7 @@
-use Rattle.std.proofs.Common.{◌≡◌, ◌-◌, ◌≤◌, length}
+use Rattle.std.proofs.Common.{◌≡◌, length}
 use lib.Seq.{sets}
 use Rattle.interpreter.specs.Layout.{eights}
 use Rattle.interpreter.proofs.layout.put_registers.Given as goal
 
 abbrev pub invariant-loop-i : goal.invariant-loop-i
-invariant-loop-i l = (l.i ≤ 32) × (length l.buf ≡ length l.initial.buf) × (l.buf ≡ sets l.initial.buf l.at (eights l.regs l.i))
-
-abbrev pub decreases-loop-i : goal.decreases-loop-i
-decreases-loop-i l = 32 - l.i
+invariant-loop-i l = (length l.buf ≡ length l.initial.buf) × (l.buf ≡ sets l.initial.buf l.at (eights l.regs l.i))

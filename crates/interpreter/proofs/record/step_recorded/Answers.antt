@@ -7,11 +7,11 @@ returns-then-buf-ne-SIZE c = record_short _ _ _ _ _ _ _ _ c.if-buf-ne-SIZE.true 
 pub returns-then-c-ne0 : goal.returns-then-c-ne0
 returns-then-c-ne0 c = record_misaligned _ _ _ _ _ _ _ _ c.if-buf-ne-SIZE.false c.cpu-c.ensures c.if-c-ne0.true c.step.ensures
 
-pub returns-then-seen : goal.returns-then-seen
-returns-then-seen c = record_wide _ _ _ _ _ _ _ _ c.if-buf-ne-SIZE.false c.cpu-c.ensures c.fetch-word.ensures c.look-seen.ensures c.if-seen.true c.step-then-seen.ensures
+pub returns-in-Wide : goal.returns-in-Wide
+returns-in-Wide c = record_wide _ _ _ _ _ _ _ _ c.if-buf-ne-SIZE.false c.cpu-c.ensures c.fetch-word.ensures c.look-seen.ensures c.in-Wide.is c.step-in-Wide.ensures
 
 pub step_seen-requires : goal.step_seen-requires
-step_seen-requires c = (c.if-buf-ne-SIZE.false, touched_even _ _ _ c.look-seen.ensures)
+step_seen-requires c = (c.if-buf-ne-SIZE.false, touched_even _ _ _ c.look-seen.ensures c.in-Narrow.is)
 
-pub returns : goal.returns
-returns c = record_done _ _ _ _ _ _ _ _ c.if-buf-ne-SIZE.false c.cpu-c.ensures c.fetch-word.ensures c.look-seen.ensures c.if-seen.false c.step_seen.ensures
+pub returns-in-Narrow : goal.returns-in-Narrow
+returns-in-Narrow c = record_done _ _ _ _ _ _ _ _ c.if-buf-ne-SIZE.false c.cpu-c.ensures c.fetch-word.ensures c.look-seen.ensures c.in-Narrow.is c.step_seen.ensures

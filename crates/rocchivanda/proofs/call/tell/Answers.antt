@@ -1,4 +1,4 @@
-use mathlib.Core.Path.{ap}
+use Rattle.std.proofs.Common.{ap}
 use Rattle.interpreter.specs.declared.step.Values.{Values}
 use Rattle.rocchivanda.proofs.Laws.Ends.{told_is}
 use Rattle.rocchivanda.proofs.call.tell.Goals as goal
