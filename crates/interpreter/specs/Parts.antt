@@ -1,12 +1,10 @@
 -- What the code's private parts answer and leave. No public promise rests on these.
-use Rattle.std.specs.Prelude.{◌≡◌, ℕ, zero, suc, ◌+◌, ◌-◌, ◌*◌, ◌/◌, ◌%◌, ◌≤◌, Bool, true, false, cond, List, [], ◌++◌, length, ◌==◌, nat_le, nat_lt}
+use Rattle.std.specs.Prelude.{◌≡◌, ℕ, zero, suc, ◌+◌, ◌-◌, ◌*◌, ◌/◌, ◌%◌, ◌≤◌, Bool, true, false, cond, List, [], ◌++◌, length, ◌==◌, nat_le, nat_lt, Ok, Some}
 use Rattle.std.proofs.lemmas.List.Edits.{sets}
 use Rattle.pages.specs.Bytes.{cell, row, big}
 use Rattle.pages.specs.Memory.{Memory, span}
 use Rattle.pages.specs.Pages.{lookup, byte_at}
 use Rattle.pages.specs.Calls.{stored}
-use Rattle.pages.specs.declared.page.Lookup.TheVariants.{Record}
-use Rattle.pages.specs.declared.memory.Stored.TheVariants.{Used}
 use Rattle.interpreter.specs.declared.effect.Refusal.{Refusal}
 use Rattle.interpreter.specs.declared.effect.Refusal.TheVariants.{NoRoom}
 use Rattle.interpreter.specs.declared.effect.Touch.{Touch}
@@ -140,7 +138,7 @@ Quiet r i = (e : Change) → r ≡ Done e → (does (decode i.word) i ≡ Done e
 -- a page's number and where its bytes stand, or no page's number
 pub data Shows (p : List ℕ) (u : ℕ) (w : Window) : Type 0 where
   nowhere : w.number ≡ 0xffffffffffffffff → Shows p u w
-  standing : (i : ℕ) → lookup p u w.number ≡ Record i → w.at ≡ i * 4104 + 8 → Shows p u w
+  standing : (i : ℕ) → lookup p u w.number ≡ Ok (Some i) → w.at ≡ i * 4104 + 8 → Shows p u w
 
 abbrev pub Both : List ℕ → ℕ → Pair → Type 0
 Both p u d = Shows p u d.near × Shows p u d.far
@@ -191,7 +189,7 @@ pub record Completed (r p : List ℕ) (u : ℕ) (d : Pair) (t : Touch) (e : Chan
   pub core : q.core ≡ core_after e
   pub window : q.data ≡ d
   pub regs : r' ≡ set_reg r e.dest e.value
-  pub pages : stored (Used u) p' ≡ putting p u (storing t e)
+  pub pages : stored (Ok u) p' ≡ putting p u (storing t e)
   pub kept : (v : Window) → Shows p u v → Shows p' u v
 
 -- a step that was not made leaves everything, and one that was is the definition's

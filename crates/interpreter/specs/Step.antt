@@ -1,11 +1,10 @@
 -- One step over the lent buffers (document 01, "One step" and "Numbers a refusal carries").
-use Rattle.std.specs.Prelude.{ℕ, Bool, true, false, cond, List, length, nat_le}
+use Rattle.std.specs.Prelude.{ℕ, Bool, true, false, cond, List, length, nat_le, Result, Ok, Err}
 use Rattle.std.proofs.lemmas.List.Edits.{sets}
 use Rattle.pages.specs.Bytes.{cell, row}
 use Rattle.pages.specs.Pages.{byte_at}
 use Rattle.pages.specs.Calls.{Set, stored, set_def}
-use Rattle.pages.specs.declared.memory.Stored.{Stored}
-use Rattle.pages.specs.declared.memory.Stored.TheVariants.{Used, Misaligned, Overused, Full}
+use Rattle.pages.specs.declared.memory.StoreError.{StoreError}
 use Rattle.interpreter.specs.Effects.{refusal_number}
 use Rattle.interpreter.specs.declared.effect.Refusal.{Refusal}
 use Rattle.interpreter.specs.declared.effect.Refusal.TheVariants.{BadMachine, MemoryFull}
@@ -51,19 +50,17 @@ refused m n = left (Refused n) m false
 unfoldable pub settled : Machine → Deed → ℕ → List ℕ → Left
 settled m d u p = left d.answer (machine d.cpu d.regs d.key u p (sets m.hint m.cpu.hint d.appended) (sets m.output 0 d.written)) true
 
--- a store that finds no record left is refused, with the whole deed. The other answers of a store cannot come (`put_full` in
+-- a store that finds no record left is refused, with the whole deed. A store's other refusals cannot come (`put_full` in
 -- proofs/Laws/Kept): the address is a doubleword's, and the used records are there
-abbrev pub landed : Machine → Deed → List ℕ → Stored → Left
-landed m d p (Used u) = settled m d u p
-landed m d p Full = refused m MemoryFull
-landed m d p Misaligned = refused m MemoryFull
-landed m d p Overused = refused m MemoryFull
+abbrev pub landed : Machine → Deed → List ℕ → Result ℕ StoreError → Left
+landed m d p (Ok u) = settled m d u p
+landed m d p (Err e) = refused m MemoryFull
 
 abbrev pub landing : Machine → Deed → Set → Left
 landing m d s = landed m d s.pages s.answer
 
 abbrev pub putting : List ℕ → ℕ → Store → Set
-putting p u keeps = stored (Used u) p
+putting p u keeps = stored (Ok u) p
 putting p u (stores a x) = set_def 8 p u a x
 
 unfoldable pub lay : Machine → Plan → Left

@@ -1,9 +1,8 @@
 // Many steps in a row, as long as each is an instruction on pages that are there. Every other step ends them, and is left to
 // `step::advance`.
-ghost use Rattle.std.specs.Prelude.{◌≡◌, ℕ, ◌%◌, ◌<◌, true, false, List};
+ghost use Rattle.std.specs.Prelude.{◌≡◌, ℕ, ◌%◌, ◌<◌, true, false, List, Ok};
 ghost use Rattle.pages.specs.Pages.{byte_at};
 ghost use Rattle.pages.specs.Calls.{stored};
-ghost use Rattle.pages.specs.declared.memory.Stored.TheVariants.{Used};
 ghost use Rattle.interpreter.specs.Machine.{machine, bad};
 ghost use Rattle.interpreter.specs.Plan.{eight_at, storing, touch_of};
 ghost use Rattle.interpreter.specs.Step.{putting};
@@ -106,7 +105,7 @@ fn touched(w: Window, pages: &[u8], used: usize, t: Touch) -> u64
 
 fn settle(w: Window, pages: &mut [u8], used: usize, t: Touch, e: Change)
     requires { Shows pages.old used w × (covered w t ≡ true) × ((a : ℕ) → t ≡ Eight a → a % 8 ≡ 0) }
-    ensures { (stored (Used used) pages.new ≡ putting pages.old used (storing t e)) × ((v : Window) → Shows pages.old used v → Shows pages.new used v) }
+    ensures { (stored (Ok used) pages.new ≡ putting pages.old used (storing t e)) × ((v : Window) → Shows pages.old used v → Shows pages.new used v) }
 {
     match t {
         Touch::Nothing => {}

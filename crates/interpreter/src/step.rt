@@ -15,7 +15,7 @@ use crate::isa::IType;
 use crate::state::{Cpu, State};
 use crate::{cpu, hint, syscall};
 use pages::memory;
-use pages::memory::{Loaded, Stored};
+use pages::memory::StoreError;
 use pages::page::Page;
 
 // What a step answers.
@@ -102,12 +102,7 @@ pub(crate) fn fetch(pages: &[u8], used: usize, pc: u64) -> u64
     requires { pc % 4 ≡ 0 }
     ensures { result ≡ big 4 (byte_at pages.now used) pc }
 {
-    let loaded = memory::get_word(pages, used, pc);
-    match loaded {
-        Loaded::Value(w) => w,
-        Loaded::Misaligned => 0,
-        Loaded::Overused => 0,
-    }
+    memory::get_word(pages, used, pc).unwrap_or(0)
 }
 
 // The doubleword at an aligned address.
@@ -115,12 +110,7 @@ pub(crate) fn eight(pages: &[u8], used: usize, address: u64) -> u64
     requires { address % 8 ≡ 0 }
     ensures { result ≡ big 8 (byte_at pages.now used) address }
 {
-    let loaded = memory::get_doubleword(pages, used, address);
-    match loaded {
-        Loaded::Value(x) => x,
-        Loaded::Misaligned => 0,
-        Loaded::Overused => 0,
-    }
+    memory::get_doubleword(pages, used, address).unwrap_or(0)
 }
 
 fn register(regs: &[u64; 32], i: u64) -> u64
@@ -140,16 +130,16 @@ pub(crate) fn set_reg(regs: &mut [u64; 32], i: u64, v: u64)
 }
 
 // What an instruction stores, if anything.
-fn settle(pages: &mut [u8], used: usize, t: Touch, e: Change) -> Stored
+fn settle(pages: &mut [u8], used: usize, t: Touch, e: Change) -> Result<usize, StoreError>
     ensures { stored result pages.new ≡ putting pages.old used (storing t e) }
 {
     match t {
-        Touch::Nothing => Stored::Used(used),
+        Touch::Nothing => Ok(used),
         Touch::Eight(a) => {
             if e.store {
                 return memory::set_doubleword(pages, used, a, e.mem);
             }
-            Stored::Used(used)
+            Ok(used)
         }
     }
 }
@@ -190,13 +180,12 @@ fn complete(
 {
     let stored = settle(pages, used, t, e);
     match stored {
-        Stored::Used(u) => {
+        Ok(u) => {
             set_reg(regs, e.dest, e.value);
             doing(Answer::Stepped, c.changed(e), u)
         }
-        Stored::Full => refuse(c, used, Refusal::MemoryFull),
-        Stored::Misaligned => refuse(c, used, Refusal::MemoryFull),
-        Stored::Overused => refuse(c, used, Refusal::MemoryFull),
+        // A full memory: the other refusals of a store cannot come here.
+        Err(_) => refuse(c, used, Refusal::MemoryFull),
     }
 }
 

@@ -13,7 +13,6 @@ use crate::linux::Call;
 use crate::state::Cpu;
 use crate::step::{Answer, Next};
 use crate::{bits, hint, input, linux, step};
-use pages::memory::Stored;
 use pages::{memory, reader};
 
 fn reply(regs: &mut [u64; 32], v: u64, e: u64)
@@ -140,14 +139,13 @@ fn read_bytes(c: Cpu, regs: &mut [u64; 32], pages: &mut [u8], used: usize, part:
     let new = input::merge(old, a1 % 8, part, c.offset, n);
     let stored = memory::set_doubleword(pages, used, at, new);
     match stored {
-        Stored::Used(u) => {
+        Ok(u) => {
             reply(regs, n, 0);
             let offset = bits::plus(c.offset, n);
             step::doing(Answer::Stepped, c.onward(c.heap, offset, c.hint), u)
         }
-        Stored::Full => step::refuse(c, used, Refusal::MemoryFull),
-        Stored::Misaligned => step::refuse(c, used, Refusal::MemoryFull),
-        Stored::Overused => step::refuse(c, used, Refusal::MemoryFull),
+        // A full memory: the other refusals of a store cannot come here.
+        Err(_) => step::refuse(c, used, Refusal::MemoryFull),
     }
 }
 

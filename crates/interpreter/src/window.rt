@@ -1,13 +1,12 @@
 // The page that was looked up last: a run need not look for it again.
-ghost use Rattle.std.specs.Prelude.{◌≡◌, ℕ, ◌/◌, ◌%◌, List, ◌==◌};
+ghost use Rattle.std.specs.Prelude.{◌≡◌, ℕ, ◌/◌, ◌%◌, List, ◌==◌, Ok};
 ghost use Rattle.pages.specs.Bytes.{big};
 ghost use Rattle.pages.specs.Pages.{byte_at};
 ghost use Rattle.pages.specs.Calls.{stored, set_def};
-ghost use Rattle.pages.specs.declared.memory.Stored.TheVariants.{Used};
 ghost use Rattle.interpreter.specs.Parts.{Shows, Both};
 ghost use Rattle.interpreter.specs.declared.window.Window.{Window};
 
-use pages::page::{Lookup, Page};
+use pages::page::Page;
 use pages::{bytes, page};
 
 // A page's number, and where its bytes stand in the slice.
@@ -39,14 +38,12 @@ impl Window {
         if number == self.number {
             return self;
         }
-        let found = page::page_lookup(pages, used, number);
-        match found {
-            Lookup::Record(i) => Window {
+        match page::page_lookup(pages, used, number) {
+            Ok(Some(i)) => Window {
                 number,
                 at: i * Page::RECORD_SIZE + Page::NUMBER_SIZE,
             },
-            Lookup::Absent => Window::none(),
-            Lookup::Overused => Window::none(),
+            Ok(None) | Err(_) => Window::none(),
         }
     }
 
@@ -80,7 +77,7 @@ impl Window {
     // A store in the page: every page stays where it is.
     pub(crate) fn put_doubleword(self, pages: &mut [u8], used: usize, address: u64, value: u64)
         requires { Shows pages.old used self × (address / 4096 ≡ self.number) × (address % 8 ≡ 0) }
-        ensures { (stored (Used used) pages.new ≡ set_def 8 pages.old used address value) × ((w : Window) → Shows pages.old used w → Shows pages.new used w) }
+        ensures { (stored (Ok used) pages.new ≡ set_def 8 pages.old used address value) × ((w : Window) → Shows pages.old used w → Shows pages.new used w) }
     {
         let at = self.at + (address % Page::ADDRESSES) as usize;
         let end = at + 8;

@@ -1,7 +1,6 @@
 // A machine with a program at 0x1000.
 use interpreter::state::State;
 use pages::memory;
-use pages::memory::Stored;
 
 #[derive(Clone, Copy)]
 pub struct Machine {
@@ -32,13 +31,7 @@ impl Machine {
 
     // Stores a word, and answers how many page records are used then.
     pub fn put(pages: &mut [u8], used: usize, address: u64, word: u32) -> usize {
-        let stored = memory::set_word(pages, used, address, word);
-        match stored {
-            Stored::Used(u) => u,
-            Stored::Misaligned => used,
-            Stored::Overused => used,
-            Stored::Full => used,
-        }
+        memory::set_word(pages, used, address, word).unwrap_or(used)
     }
 
     // "geodesy\n" at 0x2000.

@@ -3,7 +3,7 @@
 use interpreter::bits;
 use interpreter::isa::{IType, Opcode, RType, SpecialFunction};
 use interpreter::state::State;
-use pages::page::{Lookup, Page};
+use pages::page::Page;
 use pages::{bytes, page};
 
 // Where the word before pc stands, and 0 where there is no such run.
@@ -15,13 +15,11 @@ pub struct Before {
 
 // A list has at most five page records.
 fn place(pages: &[u8], used: usize, address: u64) -> usize {
-    let found = page::page_lookup(pages, used, address / Page::ADDRESSES);
-    match found {
-        Lookup::Record(i) => i % 8 * Page::RECORD_SIZE
-            + Page::NUMBER_SIZE
-            + (address % Page::ADDRESSES) as usize,
-        Lookup::Absent => 0,
-        Lookup::Overused => 0,
+    match page::page_lookup(pages, used, address / Page::ADDRESSES) {
+        Ok(Some(i)) => {
+            i % 8 * Page::RECORD_SIZE + Page::NUMBER_SIZE + (address % Page::ADDRESSES) as usize
+        }
+        Ok(None) | Err(_) => 0,
     }
 }
 

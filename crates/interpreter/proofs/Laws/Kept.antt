@@ -1,16 +1,16 @@
 -- What every step keeps: the form of its state, and that a store goes to a doubleword.
-use Rattle.std.proofs.Common.{◌≡◌, ℕ, ◌+◌, ◌*◌, ◌/◌, ◌%◌, ◌^◌, ◌<◌, ◌≤◌, Bool, true, false, cond, ltb, List, [], length, sym, refl, ap, ◌∙◌, arith, length-append, length-drop, ltb-false, le-ltb}
+use Rattle.std.proofs.Common.{◌≡◌, ℕ, ◌+◌, ◌*◌, ◌/◌, ◌%◌, ◌^◌, ◌<◌, ◌≤◌, Bool, true, false, cond, ltb, List, [], length, sym, refl, ap, ◌∙◌, arith, length-append, length-drop, ltb-false, le-ltb, Result, Ok, Err}
 use lib.Seq.{length-sets}
 use Rattle.pages.specs.Bytes.{cell, big, bytes_of}
 use Rattle.pages.specs.Memory.{span}
 use Rattle.pages.specs.Pages.{whole}
 use Rattle.pages.specs.Calls.{Set, stored, store_def, set_def}
-use Rattle.pages.specs.declared.memory.Stored.{Stored}
-use Rattle.pages.specs.declared.memory.Stored.TheVariants.{Used, Misaligned, Overused, Full}
+use Rattle.pages.specs.declared.memory.StoreError.{StoreError}
+use Rattle.pages.specs.declared.memory.StoreError.TheVariants.{Full}
 use Rattle.pages.proofs.Laws.Runs.{length_row}
 use Rattle.pages.proofs.Laws.Loads.{length_span}
 use Rattle.pages.proofs.Laws.Lookups.{lookup_fine}
-use Rattle.pages.proofs.Laws.Stores.{store_cases, set_aligned, set_stored, set_length, used_same, used_full, used_over}
+use Rattle.pages.proofs.Laws.Stores.{store_cases, set_aligned, set_stored, set_length, used_same, used_refused}
 use Rattle.interpreter.specs.Isa.{rs_of}
 use Rattle.interpreter.specs.OpcodeMap.{decode}
 use Rattle.interpreter.specs.Loads.{address_of}
@@ -236,30 +236,30 @@ put_length : (p : List ℕ) (u : ℕ) (s : Store) → length (putting p u s).pag
 put_length p u keeps = refl
 put_length p u (stores a x) = set_length 8 p u a x
 
-store_used : (p : List ℕ) (u a w : ℕ) (vs : List ℕ) → u ≤ whole p → (store_def p u a vs).answer ≡ Used w → w ≤ whole p
+store_used : (p : List ℕ) (u a w : ℕ) (vs : List ℕ) → u ≤ whole p → (store_def p u a vs).answer ≡ Ok w → w ≤ whole p
 store_used p u a w vs h e =
-    store_cases p u a vs (λ s. s.answer ≡ Used w → w ≤ whole p)
+    store_cases p u a vs (λ s. s.answer ≡ Ok w → w ≤ whole p)
     (λ i f g. rw (← (used_same g)) h)
     (λ f l g. let k = used_same g in omega arith)
-    (λ f l g. absurd (used_full g))
-    (λ f g. absurd (used_over g))
+    (λ f l g. absurd (used_refused g))
+    (λ z f g. absurd (used_refused g))
     e
 
-put_used : (p : List ℕ) (u w : ℕ) (s : Store) → u ≤ whole p → (putting p u s).answer ≡ Used w → w ≤ whole p
+put_used : (p : List ℕ) (u w : ℕ) (s : Store) → u ≤ whole p → (putting p u s).answer ≡ Ok w → w ≤ whole p
 put_used p u w keeps h e = rw (← (used_same e)) h
 put_used p u w (stores a x) h e =
-    let g = set_stored 8 p u a x {u = w} {q = (set_def 8 p u a x).pages} (ap (λ (r : Stored). stored r (set_def 8 p u a x).pages) e) in
+    let g = set_stored 8 p u a x {u = w} {q = (set_def 8 p u a x).pages} (ap (λ (r : Result ℕ StoreError). stored r (set_def 8 p u a x).pages) e) in
     store_used p u a w (bytes_of 8 x) h (ap (λ (r : Set). r.answer) g.1)
 
--- a store to a doubleword, with the used records there, is made or finds no record left; so the last two arms of `landed` cannot come
-pub put_full : (p : List ℕ) (u : ℕ) (s : Store) → u ≤ whole p → Aligned (address_in s) → is_used (putting p u s).answer ≡ false → (putting p u s).answer ≡ Full
+-- a store to a doubleword, with the used records there, is made or finds no record left; so the other refusals cannot come
+pub put_full : (p : List ℕ) (u : ℕ) (s : Store) → u ≤ whole p → Aligned (address_in s) → is_used (putting p u s).answer ≡ false → (putting p u s).answer ≡ Err Full
 put_full p u keeps h g e = no_true e
 put_full p u (stores a x) h g e =
     let i = set_aligned 8 p u a x g.0 in
     ap (λ (r : Set). r.answer) i
-    ∙ store_cases p u a (bytes_of 8 x) (λ s. is_used s.answer ≡ false → s.answer ≡ Full)
+    ∙ store_cases p u a (bytes_of 8 x) (λ s. is_used s.answer ≡ false → s.answer ≡ Err Full)
     (λ j f k. no_true k) (λ f l k. no_true k) (λ f l k. refl)
-    (λ f k. absurd (lookup_fine p u (a / 4096) h f))
+    (λ z f k. absurd (lookup_fine p u (a / 4096) h f))
     (ap (λ (r : Set). is_used r.answer) (sym i) ∙ e)
 
 -- ---- every step
@@ -275,12 +275,10 @@ module _ (x d : List ℕ) (m : Machine) (f : Formed m) where
         used = rw e h;
       }
 
-  landed_formed : (w : Deed) → Good (view_of x d m) w → (q : List ℕ) → length q ≡ length m.pages → (s : Stored)
-      → ((u : ℕ) → s ≡ Used u → u ≤ whole m.pages) → Formed (landed m w q s).machine
-  landed_formed w g q e (Used u) h = settled_formed w g u q e (h u refl)
-  landed_formed w g q e Full h = f
-  landed_formed w g q e Misaligned h = f
-  landed_formed w g q e Overused h = f
+  landed_formed : (w : Deed) → Good (view_of x d m) w → (q : List ℕ) → length q ≡ length m.pages → (s : Result ℕ StoreError)
+      → ((u : ℕ) → s ≡ Ok u → u ≤ whole m.pages) → Formed (landed m w q s).machine
+  landed_formed w g q e (Ok u) h = settled_formed w g u q e (h u refl)
+  landed_formed w g q e (Err z) h = f
 
   lay_formed : (p : Plan) → Sound (view_of x d m) p → Formed (lay m p).machine
   unfolding lay

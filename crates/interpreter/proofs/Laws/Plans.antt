@@ -1,5 +1,5 @@
 -- How the parts of a step meet its definition.
-use Rattle.std.proofs.Common.{◌≡◌, ℕ, ◌+◌, ◌-◌, ◌*◌, ◌/◌, ◌%◌, ◌<◌, ◌≤◌, Bool, true, false, cond, ltb, leb, List, length, sym, refl, ap, ◌∙◌, arith, ltb-false, le-ltb, lt-ltb, ne_eqb, le-leb}
+use Rattle.std.proofs.Common.{◌≡◌, ℕ, ◌+◌, ◌-◌, ◌*◌, ◌/◌, ◌%◌, ◌<◌, ◌≤◌, Bool, true, false, cond, ltb, leb, List, length, sym, refl, ap, ◌∙◌, arith, ltb-false, le-ltb, lt-ltb, ne_eqb, le-leb, Result, Ok, Err}
 use lib.Seq.{sets}
 use borrow.Author.Tests.{lt-leb}
 use Rattle.pages.specs.Bytes.{big, row, cell, bytes_of}
@@ -9,8 +9,7 @@ use Rattle.pages.specs.Calls.{stored, set_def, put_def}
 use Rattle.pages.proofs.Laws.Runs.{length_row}
 use Rattle.pages.proofs.Laws.Loads.{length_span}
 use Rattle.pages.proofs.Laws.Places.{put_fits}
-use Rattle.pages.specs.declared.memory.Stored.{Stored}
-use Rattle.pages.specs.declared.memory.Stored.TheVariants.{Used, Misaligned, Overused, Full}
+use Rattle.pages.specs.declared.memory.StoreError.{StoreError}
 use Rattle.interpreter.specs.Words.{plus}
 use Rattle.interpreter.specs.declared.effect.Change.{Change}
 use Rattle.interpreter.specs.declared.effect.Touch.{Touch}
@@ -43,30 +42,28 @@ module _ (c : Cpu) (r k : List ℕ) (u : ℕ) (p h o x d : List ℕ) where
   abbrev m0 : Machine
   m0 = machine c r k u p h o
 
-  full_as : (w : Deed) (s : Stored) (q : List ℕ) → is_used s ≡ false → landed m0 w q s ≡ after (refusing c u MemoryFull) r k p h o
-  full_as w (Used v) q e = no_true e
-  full_as w Full q e = refl
-  full_as w Misaligned q e = refl
-  full_as w Overused q e = refl
+  full_as : (w : Deed) (s : Result ℕ StoreError) (q : List ℕ) → is_used s ≡ false → landed m0 w q s ≡ after (refusing c u MemoryFull) r k p h o
+  full_as w (Ok v) q e = no_true e
+  full_as w (Err z) q e = refl
 
   -- a deed whose store was not made
-  pub deed_full : (f : View → Deed) {s g : Stored} {q : List ℕ} {n : Next} → stored s q ≡ putting p u (f (view_of x d m0)).store → s ≡ g → is_used g ≡ false
+  pub deed_full : (f : View → Deed) {s g : Result ℕ StoreError} {q : List ℕ} {n : Next} → stored s q ≡ putting p u (f (view_of x d m0)).store → s ≡ g → is_used g ≡ false
       → n ≡ refusing c u MemoryFull → after n r k q h o ≡ working x d m0 (λ v. does (f v))
   unfolding working lay
   deed_full f {s} {g} {q} {n} e z w b = rw (b, unstored p u (f (view_of x d m0)).store e z w, ← e, z) (sym (full_as (f (view_of x d m0)) g q w))
 
   -- a deed whose store was made, if it had one
-  pub deed_done : (f : View → Deed) {s : Stored} {q : List ℕ} {w : ℕ} → stored s q ≡ putting p u (f (view_of x d m0)).store → s ≡ Used w
+  pub deed_done : (f : View → Deed) {s : Result ℕ StoreError} {q : List ℕ} {w : ℕ} → stored s q ≡ putting p u (f (view_of x d m0)).store → s ≡ Ok w
       → settled m0 (f (view_of x d m0)) w q ≡ working x d m0 (λ v. does (f v))
   unfolding working lay
   deed_done f {s} {q} {w} e z = rw (← e, z)
 
-  pub change_done : (t : Touch) (e : Change) {s : Stored} {q l : List ℕ} {w : ℕ} {b : Cpu} {n : Next} → stored s q ≡ putting p u (storing t e) → s ≡ Used w
+  pub change_done : (t : Touch) (e : Change) {s : Result ℕ StoreError} {q l : List ℕ} {w : ℕ} {b : Cpu} {n : Next} → stored s q ≡ putting p u (storing t e) → s ≡ Ok w
       → l ≡ set_reg r e.dest e.value → b ≡ changed c e → n ≡ doing Stepped b w → after n l k q h o ≡ working x d m0 (λ v. does (changing v t e))
   unfolding settled changing view_of
   change_done t e i z y b g = rw (g, y, b) (deed_done (λ v. changing v t e) i z)
 
-  pub change_full : (t : Touch) (e : Change) {s g : Stored} {q : List ℕ} {n : Next} → stored s q ≡ putting p u (storing t e) → s ≡ g → is_used g ≡ false
+  pub change_full : (t : Touch) (e : Change) {s g : Result ℕ StoreError} {q : List ℕ} {n : Next} → stored s q ≡ putting p u (storing t e) → s ≡ g → is_used g ≡ false
       → n ≡ refusing c u MemoryFull → after n r k q h o ≡ working x d m0 (λ v. does (changing v t e))
   unfolding changing view_of
   change_full t e = deed_full (λ v. changing v t e)
@@ -110,20 +107,20 @@ module _ (c : Cpu) (r k : List ℕ) (u : ℕ) (p h o x d : List ℕ) where
 
   -- ---- 5000 on 5
 
-  read_store : (t : List ℕ) {s : Stored} {q : List ℕ} {g y z a : ℕ} → g ≡ moving (length t) c.offset (reg r 5) (reg r 6) → a ≡ reg r 5 / 8 * 8
+  read_store : (t : List ℕ) {s : Result ℕ StoreError} {q : List ℕ} {g y z a : ℕ} → g ≡ moving (length t) c.offset (reg r 5) (reg r 6) → a ≡ reg r 5 / 8 * 8
       → y ≡ big 8 (byte_at p u) a → z ≡ merged y (reg r 5 % 8) (moved t c.offset g) → stored s q ≡ set_def 8 p u a z
       → stored s q ≡ putting p u (read_from (view_of x d m0) t).store
   unfolding read view_of
   read_store t z1 z2 z3 z4 e = e ∙ rw (z4, z3, z2, z1)
 
-  pub read_done : (t : List ℕ) {s : Stored} {q l : List ℕ} {g y z a w i : ℕ} {b : Cpu} {n : Next} → g ≡ moving (length t) c.offset (reg r 5) (reg r 6) → a ≡ reg r 5 / 8 * 8
-      → y ≡ big 8 (byte_at p u) a → z ≡ merged y (reg r 5 % 8) (moved t c.offset g) → stored s q ≡ set_def 8 p u a z → s ≡ Used w
+  pub read_done : (t : List ℕ) {s : Result ℕ StoreError} {q l : List ℕ} {g y z a w i : ℕ} {b : Cpu} {n : Next} → g ≡ moving (length t) c.offset (reg r 5) (reg r 6) → a ≡ reg r 5 / 8 * 8
+      → y ≡ big 8 (byte_at p u) a → z ≡ merged y (reg r 5 % 8) (moved t c.offset g) → stored s q ≡ set_def 8 p u a z → s ≡ Ok w
       → l ≡ answering r g 0 → i ≡ plus c.offset g → b ≡ onward c c.heap i c.hint → n ≡ doing Stepped b w
       → after n l k q h o ≡ working x d m0 (λ v. does (read_from v t))
   unfolding settled read view_of
   read_done t z1 z2 z3 z4 e f y1 y2 y3 y4 = rw (y4, y3, y2, y1, z1) (deed_done (λ v. read_from v t) (read_store t z1 z2 z3 z4 e) f)
 
-  pub read_full : (t : List ℕ) {s f : Stored} {q : List ℕ} {g y z a : ℕ} {n : Next} → g ≡ moving (length t) c.offset (reg r 5) (reg r 6) → a ≡ reg r 5 / 8 * 8
+  pub read_full : (t : List ℕ) {s f : Result ℕ StoreError} {q : List ℕ} {g y z a : ℕ} {n : Next} → g ≡ moving (length t) c.offset (reg r 5) (reg r 6) → a ≡ reg r 5 / 8 * 8
       → y ≡ big 8 (byte_at p u) a → z ≡ merged y (reg r 5 % 8) (moved t c.offset g) → stored s q ≡ set_def 8 p u a z → s ≡ f → is_used f ≡ false
       → n ≡ refusing c u MemoryFull → after n r k q h o ≡ working x d m0 (λ v. does (read_from v t))
   read_full t z1 z2 z3 z4 e = deed_full (λ v. read_from v t) (read_store t z1 z2 z3 z4 e)

@@ -1,13 +1,12 @@
 -- A step of ours that is not refused for want of room is a step of the definition's machine on the memory that the pages mean.
-use Rattle.std.proofs.Common.{◌≡◌, ℕ, ◌+◌, ◌^◌, ◌<◌, ◌≤◌, Bool, true, false, cond, not, ltb, leb, List, [], ◌++◌, length, sym, refl, ap, ◌∙◌, arith, ltb-false, le-ltb, le-leb, leb-true}
+use Rattle.std.proofs.Common.{◌≡◌, ℕ, ◌+◌, ◌^◌, ◌<◌, ◌≤◌, Bool, true, false, cond, not, ltb, leb, List, [], ◌++◌, length, sym, refl, ap, ◌∙◌, arith, ltb-false, le-ltb, le-leb, leb-true, Result, Ok, Err}
 use mathlib.Core.Path.{fun_ext}
 use lib.Seq.{sets}
 use Rattle.pages.specs.Bytes.{cell, row}
 use Rattle.pages.specs.Memory.{Memory}
 use Rattle.pages.specs.Pages.{byte_at}
 use Rattle.pages.specs.Calls.{stored, set_def}
-use Rattle.pages.specs.declared.memory.Stored.{Stored}
-use Rattle.pages.specs.declared.memory.Stored.TheVariants.{Used, Misaligned, Overused, Full}
+use Rattle.pages.specs.declared.memory.StoreError.{StoreError}
 use Rattle.pages.proofs.Laws.Runs.{length_row, row_ext}
 use Rattle.pages.proofs.Laws.Stores.{used_same}
 use Rattle.pages.proofs.Laws.Meaning.{set_means}
@@ -123,13 +122,13 @@ view_agrees x d m =
 
 -- ---- stores
 
-put_means : (p : List ℕ) (u : ℕ) (s : Store) → Aligned (address_in s) → (w : ℕ) → (putting p u s).answer ≡ Used w
+put_means : (p : List ℕ) (u : ℕ) (s : Store) → Aligned (address_in s) → (w : ℕ) → (putting p u s).answer ≡ Ok w
     → byte_at (putting p u s).pages w ≡ remember (byte_at p u) s
 put_means p u keeps h w e = rw (← (used_same e))
 put_means p u (stores a x) h w e =
     let i = h.0 in
     let q = (set_def 8 p u a x).pages in
-    fun_ext (set_means 8 p u a x w q (omega arith) h.1 (ap (λ (r : Stored). stored r q) e))
+    fun_ext (set_means 8 p u a x w q (omega arith) h.1 (ap (λ (r : Result ℕ StoreError). stored r q) e))
 
 -- ---- the bytes held
 
@@ -169,14 +168,12 @@ module _ (x d : List ℕ) (m : Machine) (small : (i : ℕ) → reg m.regs i < 2 
         fits = out_fits w g;
       }
 
-  landed_same : (w : Deed) → Good (view_of x d m) w → (q : List ℕ) (s : Stored)
-      → ((u : ℕ) → s ≡ Used u → byte_at q u ≡ remember (byte_at m.pages m.used) w.store) → spared (landed m w q s).answer ≡ true
+  landed_same : (w : Deed) → Good (view_of x d m) w → (q : List ℕ) (s : Result ℕ StoreError)
+      → ((u : ℕ) → s ≡ Ok u → byte_at q u ≡ remember (byte_at m.pages m.used) w.store) → spared (landed m w q s).answer ≡ true
       → Same (landed m w q s) (follow (meant m) (does w)) m.output
   unfolding spared
-  landed_same w g q (Used u) h e = settled_same w g u q (h u refl)
-  landed_same w g q Full h e = no_true (sym e)
-  landed_same w g q Misaligned h e = no_true (sym e)
-  landed_same w g q Overused h e = no_true (sym e)
+  landed_same w g q (Ok u) h e = settled_same w g u q (h u refl)
+  landed_same w g q (Err z) h e = no_true (sym e)
 
   store_aligned : (w : Deed) → Good (view_of x d m) w → Aligned (address_in w.store)
   unfolding view_of

@@ -1,8 +1,7 @@
 -- The step repeated: what the loop keeps, and document 01's wording.
-use Rattle.std.proofs.Common.{◌≡◌, ℕ, zero, suc, ◌+◌, ◌-◌, ◌<◌, ◌≤◌, Bool, true, false, cond, not, ◌&&◌, ltb, List, length, sym, refl, ap, ◌∙◌, add-zero, sub-one, arith, ltb-false, ltb-true}
+use Rattle.std.proofs.Common.{◌≡◌, ℕ, zero, suc, ◌+◌, ◌-◌, ◌<◌, ◌≤◌, Bool, true, false, cond, not, ◌&&◌, ltb, List, length, sym, refl, ap, ◌∙◌, add-zero, sub-one, arith, ltb-false, ltb-true, Result, Ok, Err}
 use native.Mathlib.Nat.{sub-zero}
-use Rattle.pages.specs.declared.memory.Stored.{Stored}
-use Rattle.pages.specs.declared.memory.Stored.TheVariants.{Used, Misaligned, Overused, Full}
+use Rattle.pages.specs.declared.memory.StoreError.{StoreError}
 use Rattle.interpreter.specs.declared.effect.Effect.{Effect}
 use Rattle.interpreter.specs.declared.effect.Effect.TheVariants.{Refused as RefusedBy, Call as CallBy, Done}
 use Rattle.interpreter.specs.declared.effect.Touch.{Touch}
@@ -148,12 +147,10 @@ pub record Fair (l : Left) (exited : Bool) : Type 0 where
   pub counts : l.counts ≡ (not (is_refused l.answer) && not exited)
   pub stepped : is_stepped l.answer ≡ true → l.counts ≡ true
 
-landed_fair : (m : Machine) (w : Deed) (q : List ℕ) (s : Stored) → is_refused w.answer ≡ false → Fair (landed m w q s) false
+landed_fair : (m : Machine) (w : Deed) (q : List ℕ) (s : Result ℕ StoreError) → is_refused w.answer ≡ false → Fair (landed m w q s) false
 unfolding settled
-landed_fair m w q (Used u) e = record { counts = rw e; stepped = λ f. refl }
-landed_fair m w q Full e = record { counts = refl; stepped = λ f. f }
-landed_fair m w q Misaligned e = record { counts = refl; stepped = λ f. f }
-landed_fair m w q Overused e = record { counts = refl; stepped = λ f. f }
+landed_fair m w q (Ok u) e = record { counts = rw e; stepped = λ f. refl }
+landed_fair m w q (Err z) e = record { counts = refl; stepped = λ f. f }
 
 lay_fair : (m : Machine) (p : Plan) → Unrefused p → Fair (lay m p) false
 unfolding lay

@@ -1,10 +1,9 @@
 -- Every step keeps its pages bytes, and its state within what 360 bytes can say.
-use Rattle.std.proofs.Common.{◌≡◌, ℕ, ◌+◌, ◌-◌, ◌%◌, ◌^◌, ◌<◌, Bool, true, false, cond, eqb, ltb, List, length, set, refl, ◌∙◌, mod-lt, arith, lit<, length-set, get_or-set_other, get_or-set_same}
+use Rattle.std.proofs.Common.{◌≡◌, ℕ, ◌+◌, ◌-◌, ◌%◌, ◌^◌, ◌<◌, Bool, true, false, cond, eqb, ltb, List, length, set, refl, ◌∙◌, mod-lt, arith, lit<, length-set, get_or-set_other, get_or-set_same, Result, Ok, Err}
 use native.Mathlib.Decide.{dec_lt, ℕ_discrete}
 use lib.Seq.{set_out}
 use Rattle.pages.specs.Bytes.{cell, row, big, bytes_of}
-use Rattle.pages.specs.declared.memory.Stored.{Stored}
-use Rattle.pages.specs.declared.memory.Stored.TheVariants.{Used, Misaligned, Overused, Full}
+use Rattle.pages.specs.declared.memory.StoreError.{StoreError}
 use Rattle.pages.proofs.Laws.Runs.{Bytes, length_row, row_bytes}
 use Rattle.pages.proofs.Laws.Numbers.{bytes_bytes}
 use Rattle.pages.proofs.Laws.Meaning.{byte_small}
@@ -46,11 +45,9 @@ use Rattle.interpreter.proofs.Laws.Bounds.{wrapped, Small, Bounded, kernel_bound
 -- ---- what holds of every step
 
 -- a deed is done, or the machine stays as it is
-landed_all : (P : Machine → Type 0) (m : Machine) (d : Deed) (q : List ℕ) (s : Stored) → P m → ((u : ℕ) → P (settled m d u q).machine) → P (landed m d q s).machine
-landed_all P m d q (Used u) h g = g u
-landed_all P m d q Full h g = h
-landed_all P m d q Misaligned h g = h
-landed_all P m d q Overused h g = h
+landed_all : (P : Machine → Type 0) (m : Machine) (d : Deed) (q : List ℕ) (s : Result ℕ StoreError) → P m → ((u : ℕ) → P (settled m d u q).machine) → P (landed m d q s).machine
+landed_all P m d q (Ok u) h g = g u
+landed_all P m d q (Err z) h g = h
 
 lay_all : (P : Machine → Type 0) (m : Machine) (p : Plan) → P m → Each (λ d. (u : ℕ) → P (settled m d u (putting m.pages m.used d.store).pages).machine) p → P (lay m p).machine
 unfolding lay

@@ -1,9 +1,8 @@
 -- Many steps in a row: from the parts of a quick step to the definition's, and how the steps add up.
-use Rattle.std.proofs.Common.{◌≡◌, ℕ, zero, suc, ◌+◌, ◌-◌, ◌*◌, ◌/◌, ◌%◌, ◌^◌, ◌<◌, true, false, List, sym, refl, ap, ◌∙◌, add-one, arith, eq-eqb}
+use Rattle.std.proofs.Common.{◌≡◌, ℕ, zero, suc, ◌+◌, ◌-◌, ◌*◌, ◌/◌, ◌%◌, ◌^◌, ◌<◌, true, false, List, sym, refl, ap, ◌∙◌, add-one, arith, eq-eqb, Ok}
 use Rattle.pages.specs.Bytes.{big}
 use Rattle.pages.specs.Pages.{byte_at}
 use Rattle.pages.specs.Calls.{stored}
-use Rattle.pages.specs.declared.memory.Stored.TheVariants.{Used}
 use Rattle.interpreter.specs.declared.effect.Ins.{Ins}
 use Rattle.interpreter.specs.declared.effect.Change.{Change}
 use Rattle.interpreter.specs.declared.effect.Effect.{Effect}
@@ -103,7 +102,7 @@ module _ (c : Cpu) (k : Core) (w u : ℕ) (r p : List ℕ) {t : Touch} {y : ℕ}
       (change_done (counted (cpu_with c k n)) r a u p h o x d t e g.pages refl g.regs (rw (g.core, add-one)) refl))
 
 -- the same with what was stored
-pub completed : {r p : List ℕ} {u : ℕ} {b : Pair} {t : Touch} {e : Change} {q : Turn} {r' p' : List ℕ} → ((s : List ℕ) (n : ℕ) → Completed r s n b Nothing e q r' s) → stored (Used u) p' ≡ putting p u (storing t e)
+pub completed : {r p : List ℕ} {u : ℕ} {b : Pair} {t : Touch} {e : Change} {q : Turn} {r' p' : List ℕ} → ((s : List ℕ) (n : ℕ) → Completed r s n b Nothing e q r' s) → stored (Ok u) p' ≡ putting p u (storing t e)
     → ((v : Window) → Shows p u v → Shows p' u v) → Completed r p u b t e q r' p'
 completed {p = p} {u = u} f g h = let z = f p u in record { made = z.made; core = z.core; window = z.window; regs = z.regs; pages = g; kept = h }
 

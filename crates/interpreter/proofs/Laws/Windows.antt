@@ -1,11 +1,9 @@
 -- The page that was looked up last.
-use Rattle.std.proofs.Common.{◌≡◌, ℕ, ◌+◌, ◌-◌, ◌*◌, ◌/◌, ◌%◌, ◌^◌, ◌<◌, ◌≤◌, true, List, ◌++◌, length, take, drop, sym, ap, ◌∙◌, arith, eqb-true}
+use Rattle.std.proofs.Common.{◌≡◌, ℕ, ◌+◌, ◌-◌, ◌*◌, ◌/◌, ◌%◌, ◌^◌, ◌<◌, ◌≤◌, true, List, ◌++◌, length, take, drop, sym, ap, ◌∙◌, arith, eqb-true, Ok, Some}
 use lib.Seq.{sets}
 use Rattle.pages.specs.Bytes.{cell, big, bytes_of}
 use Rattle.pages.specs.Pages.{lookup, byte_at}
 use Rattle.pages.specs.Calls.{number_at, put_def, stored, set_def}
-use Rattle.pages.specs.declared.page.Lookup.TheVariants.{Record}
-use Rattle.pages.specs.declared.memory.Stored.TheVariants.{Used}
 use Rattle.pages.proofs.Laws.Numbers.{length_bytes}
 use Rattle.pages.proofs.Laws.Places.{part_read, part_write}
 use Rattle.pages.proofs.Laws.Found.{found_room, found_number, found_store, found_kept}
@@ -17,7 +15,7 @@ use Rattle.interpreter.specs.declared.window.Window.{Window}
 -- the record that an address in the page lies in
 record Found (p : List ℕ) (u : ℕ) (w : Window) (a : ℕ) : Type 0 where
   i : ℕ
-  is : lookup p u (a / 4096) ≡ Record i
+  is : lookup p u (a / 4096) ≡ Ok (Some i)
   at : w.at ≡ i * 4104 + 8
 
 module _ (p : List ℕ) (u : ℕ) (w : Window) (a : ℕ) (small : a < 2 ^ 64) (e : a / 4096 ≡ w.number) where
@@ -34,8 +32,8 @@ module _ (p : List ℕ) (u : ℕ) (w : Window) (a : ℕ) (small : a < 2 ^ 64) (e
   window_number : (n : ℕ) → a % 4096 + n ≤ 4096 → Shows p u w → big n (cell p) (w.at + a % 4096) ≡ big n (byte_at p u) a
   window_number n h s = let f = found s in ap (big n (cell p)) (place s) ∙ found_number p u a f.i f.is n h
 
-  window_store : (v : ℕ) → a % 8 ≡ 0 → Shows p u w → stored (Used u) (sets p (w.at + a % 4096) (bytes_of 8 v)) ≡ set_def 8 p u a v
-  window_store v h s = let f = found s in ap (λ k. stored (Used u) (sets p k (bytes_of 8 v))) (place s) ∙ found_store p u a f.i f.is v h
+  window_store : (v : ℕ) → a % 8 ≡ 0 → Shows p u w → stored (Ok u) (sets p (w.at + a % 4096) (bytes_of 8 v)) ≡ set_def 8 p u a v
+  window_store v h s = let f = found s in ap (λ k. stored (Ok u) (sets p k (bytes_of 8 v))) (place s) ∙ found_store p u a f.i f.is v h
 
   window_kept : (v : ℕ) → a % 8 ≡ 0 → Shows p u w → (z : Window) → Shows p u z → Shows (sets p (w.at + a % 4096) (bytes_of 8 v)) u z
   window_kept v h s z (nowhere n) = nowhere n
@@ -50,7 +48,7 @@ module _ (p : List ℕ) (u : ℕ) (w : Window) (a : ℕ) (small : a < 2 ^ 64) (e
   pub window_read : (n : ℕ) → a % 4096 + n ≤ 4096 → Shows p u w → {r : ℕ} → r ≡ number_at n (take (start + n - start) (drop start p)) 0 → r ≡ big n (byte_at p u) a
   window_read n h s q = q ∙ part_read p start n (window_room n h s) ∙ window_number n h s
 
-  pub window_write : (v : ℕ) → a % 8 ≡ 0 → Shows p u w → {d : List ℕ} → d ≡ put_def (take (start + 8 - start) (drop start p)) 0 (bytes_of 8 v) → (stored (Used u) (take start p ++ (d ++ drop (start + 8 - start) (drop start p))) ≡ set_def 8 p u a v) × ((z : Window) → Shows p u z → Shows (take start p ++ (d ++ drop (start + 8 - start) (drop start p))) u z)
+  pub window_write : (v : ℕ) → a % 8 ≡ 0 → Shows p u w → {d : List ℕ} → d ≡ put_def (take (start + 8 - start) (drop start p)) 0 (bytes_of 8 v) → (stored (Ok u) (take start p ++ (d ++ drop (start + 8 - start) (drop start p))) ≡ set_def 8 p u a v) × ((z : Window) → Shows p u z → Shows (take start p ++ (d ++ drop (start + 8 - start) (drop start p))) u z)
   window_write v h s q =
       let o : a % 4096 + 8 ≤ 4096 = omega arith in
       let k = part_write p start 8 (window_room 8 o s) (bytes_of 8 v) (length_bytes 8 v) q in
