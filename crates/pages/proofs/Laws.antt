@@ -1,10 +1,11 @@
--- What the layers above may cite of this one: laws of its definitions, by subject.
 pub mod Runs
 pub mod Numbers
+pub mod Places
+pub mod Widths
+pub mod Std
 pub mod Lookups
 pub mod Loads
-pub mod Rooms
 pub mod Stores
+pub mod Calls
 pub mod Meaning
-pub mod Places
 pub mod Found

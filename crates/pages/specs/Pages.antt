@@ -1,10 +1,10 @@
 -- Page records (document 01, "What the machine holds"): the page's number in eight bytes, big-endian, and then its 4,096 bytes.
-use Rattle.std.specs.Prelude.{ℕ, zero, suc, ◌+◌, ◌*◌, ◌/◌, ◌%◌, cond, List, length, ◌==◌, nat_lt}
+use Rattle.std.specs.Prelude.{ℕ, zero, suc, ◌+◌, ◌*◌, ◌/◌, ◌%◌, cond, List, length, ◌==◌, nat_lt, Option, Some, None, Result, Ok, Err}
 use Rattle.std.proofs.lemmas.List.Edits.{sets}
 use Rattle.pages.specs.Bytes.{cell, big, bytes_of, zeros}
 use Rattle.pages.specs.Memory.{Memory}
-use Rattle.pages.specs.declared.page.Lookup.{Lookup}
-use Rattle.pages.specs.declared.page.Lookup.TheVariants.{Record, Absent, Overused}
+use Rattle.pages.specs.declared.page.PageError.{PageError}
+use Rattle.pages.specs.declared.page.PageError.TheVariants.{Overused}
 
 -- how many whole records there are
 abbrev pub whole : List ℕ → ℕ
@@ -15,19 +15,19 @@ unfoldable pub number_of : List ℕ → ℕ → ℕ
 number_of p i = big 8 (cell p) (i * 4104)
 
 -- the first of the n records from record i on that has the number x
-unfoldable pub first_record : List ℕ → ℕ → ℕ → ℕ → Lookup
-first_record p x zero i = Absent
-first_record p x (suc n) i = cond (number_of p i == x) (Record i) (first_record p x n (suc i))
+unfoldable pub first_record : List ℕ → ℕ → ℕ → ℕ → Option ℕ
+first_record p x zero i = None
+first_record p x (suc n) i = cond (number_of p i == x) (Some i) (first_record p x n (suc i))
 
 -- the first used record that has the number x
-unfoldable pub lookup : List ℕ → ℕ → ℕ → Lookup
-lookup p used x = cond (nat_lt (whole p) used) Overused (first_record p x used 0)
+unfoldable pub lookup : List ℕ → ℕ → ℕ → Result (Option ℕ) PageError
+lookup p used x = cond (nat_lt (whole p) used) (Err Overused) (Ok (first_record p x used 0))
 
 -- the byte at offset o of the page that was looked up: an absent page reads as zero
-abbrev pub byte_in : List ℕ → ℕ → Lookup → ℕ
-byte_in p o (Record i) = cell p (i * 4104 + 8 + o)
-byte_in p o Absent = 0
-byte_in p o Overused = 0
+abbrev pub byte_in : List ℕ → ℕ → Result (Option ℕ) PageError → ℕ
+byte_in p o (Ok (Some i)) = cell p (i * 4104 + 8 + o)
+byte_in p o (Ok None) = 0
+byte_in p o (Err e) = 0
 
 -- the memory that the records are: address / 4,096 is the page's number
 unfoldable pub byte_at : List ℕ → ℕ → Memory

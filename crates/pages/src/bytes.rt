@@ -3,62 +3,74 @@ ghost use Rattle.std.specs.Prelude.{◌≡◌};
 ghost use Rattle.pages.specs.Bytes.{bytes_of, zeros};
 ghost use Rattle.pages.specs.Calls.{number_at, put_def, copy_def};
 
-use crate::inside;
+use crate::number::Number;
+use crate::spans;
 
+fn read<T: Number>(s: &[u8], at: usize) -> u64
+    ensures { result ≡ number_at T.SIZE s.now at }
+{
+    if spans::holds(s.len(), at, T::SIZE) {
+        return T::read(s, at);
+    }
+    0
+}
+
+fn put<T: Number>(s: &mut [u8], at: usize, value: T)
+    ensures { s.new ≡ put_def s.old at (bytes_of T.SIZE (T.value value)) }
+{
+    if spans::holds(s.len(), at, T::SIZE) {
+        value.write(s, at);
+        return;
+    }
+}
+
+/// The big-endian number of the four bytes at a place; 0 where they do not all lie in the slice.
 pub fn word_at(s: &[u8], at: usize) -> u64
     ensures { result ≡ number_at 4 s.now at }
 {
-    if inside::holds(s.len(), at, 4) {
-        return inside::word_at(s, at);
-    }
-    0
+    read::<u32>(s, at)
 }
 
+/// The big-endian number of the eight bytes at a place; 0 where they do not all lie in the slice.
 pub fn doubleword_at(s: &[u8], at: usize) -> u64
     ensures { result ≡ number_at 8 s.now at }
 {
-    if inside::holds(s.len(), at, 8) {
-        return inside::doubleword_at(s, at);
-    }
-    0
+    read::<u64>(s, at)
 }
 
+/// Puts four bytes at a place, the highest first; nothing changes where they do not all lie in the slice.
 pub fn put_word(s: &mut [u8], at: usize, value: u32)
     ensures { s.new ≡ put_def s.old at (bytes_of 4 value) }
 {
-    if inside::holds(s.len(), at, 4) {
-        inside::put_word(s, at, value);
-        return;
-    }
+    put(s, at, value);
 }
 
+/// Puts eight bytes at a place, the highest first; nothing changes where they do not all lie in the slice.
 pub fn put_doubleword(s: &mut [u8], at: usize, value: u64)
     ensures { s.new ≡ put_def s.old at (bytes_of 8 value) }
 {
-    if inside::holds(s.len(), at, 8) {
-        inside::put_doubleword(s, at, value);
-        return;
-    }
+    put(s, at, value);
 }
 
-// count bytes of src from one place on, to dst from another.
+/// Copies count bytes of src from one place on, to dst from another; nothing changes where they do not all lie in both.
 pub fn copy(src: &[u8], from: usize, dst: &mut [u8], at: usize, count: usize)
     ensures { dst.new ≡ copy_def src.now from dst.old at count }
 {
-    if !inside::holds(src.len(), from, count) {
+    if !spans::holds(src.len(), from, count) {
         return;
     }
-    if !inside::holds(dst.len(), at, count) {
+    if !spans::holds(dst.len(), at, count) {
         return;
     }
-    inside::copy(src, from, dst, at, count);
+    spans::copy(src, from, dst, at, count);
 }
 
+/// Puts count zeros at a place; nothing changes where they do not all lie in the slice.
 pub fn clear(s: &mut [u8], at: usize, count: usize)
     ensures { s.new ≡ put_def s.old at (zeros count) }
 {
-    if inside::holds(s.len(), at, count) {
-        inside::clear(s, at, count);
+    if spans::holds(s.len(), at, count) {
+        spans::clear(s, at, count);
         return;
     }
 }

@@ -2,10 +2,13 @@
 // A record is 4,104 bytes: the page's number in eight bytes, big-endian, and then its 4,096 bytes.
 #![tactic(auto)]
 
-// Numbers and runs of bytes at a place of a slice.
-mod inside;
+// Big-endian numbers of four and eight bytes, at a place of a slice.
+pub mod number;
 
-// The same at any place, for the layers above.
+// Runs of bytes at a place of a slice.
+mod spans;
+
+// Both at any place, for the layers above.
 pub mod bytes;
 
 // The page records, and which of them holds a page (page.rs).

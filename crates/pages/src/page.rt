@@ -1,9 +1,17 @@
 // The page records, and which of them holds a page.
-ghost use Rattle.std.specs.Prelude.{◌≡◌, ◌<◌};
-ghost use Rattle.pages.specs.Pages.{lookup, open_page, whole};
-ghost use Rattle.pages.specs.Places.{place_of, room, room_of};
+ghost use Rattle.std.specs.Prelude.{◌≡◌, ◌+◌, ◌/◌, ◌%◌, ◌<◌, ◌≤◌, length, IfOk, IfErr, OnOk, OnErr, Ok, Err};
+ghost use Rattle.std.specs.Bool.{OnTrue, OnFalse};
+ghost use Rattle.pages.specs.Bytes.{big, bytes_of};
+ghost use Rattle.pages.specs.Pages.{whole, lookup, byte_at, open_page};
+ghost use Rattle.pages.specs.Places.{place_of};
+ghost use Rattle.pages.specs.Calls.{stored, store_def};
+ghost use Rattle.pages.specs.declared.page.PageError.TheVariants.{Overused};
+ghost use Rattle.pages.specs.declared.memory.StoreError.TheVariants.{Full};
 
-use crate::inside;
+use crate::number::Number;
+use crate::spans;
+use std::error::Error;
+use std::fmt;
 
 #[derive(Clone, Copy)]
 pub struct Page {
@@ -13,96 +21,191 @@ pub struct Page {
 impl Page {
     pub const SIZE: usize = 4096;
 
-    // The page's number stands before its bytes.
+    /// The page's number stands before its bytes.
     pub const NUMBER_SIZE: usize = 8;
 
     pub const RECORD_SIZE: usize = 4104;
 
-    // How many addresses a page spans.
+    /// How many addresses a page spans.
     pub const ADDRESSES: u64 = 4096;
 }
 
-// Which record holds a page.
-#[derive(Clone, Copy)]
-pub enum Lookup {
-    Record(usize),
-    Absent,
-    // More records are said to be used than the slice has.
+/// Why the records were not looked through.
+#[derive(Clone, Copy, Debug, PartialEq, Eq)]
+pub enum PageError {
+    /// More records are said to be used than the slice has.
     Overused,
 }
 
-// The first used record with the number.
-pub fn page_lookup(pages: &[u8], used: usize, number: u64) -> Lookup
-    ensures { result ≡ lookup pages.now used number }
-{
-    if pages.len() / Page::RECORD_SIZE < used {
-        return Lookup::Overused;
+impl fmt::Display for PageError {
+    fn fmt<W: fmt::Write>(&self, f: &mut fmt::Formatter<W>) -> fmt::Result {
+        write!(f, "more records used than there are")
     }
-    let mut i = 0;
-    while i < used {
-        if inside::doubleword_at(pages, i * Page::RECORD_SIZE) == number {
-            return Lookup::Record(i);
+}
+
+impl Error for PageError {}
+
+/// No record is left for a page that is absent.
+#[derive(Clone, Copy, Debug, PartialEq, Eq)]
+pub struct NoRecordLeft;
+
+impl fmt::Display for NoRecordLeft {
+    fn fmt<W: fmt::Write>(&self, f: &mut fmt::Formatter<W>) -> fmt::Result {
+        write!(f, "no record left for the page")
+    }
+}
+
+impl Error for NoRecordLeft {}
+
+/// Records that are lent to be read, and how many of them are used: no more than there are.
+#[derive(Clone, Copy)]
+pub struct Pages<'a> {
+    pub bytes: &'a [u8],
+    pub used: usize,
+    pub ghost within: { used ≤ length bytes.now / 4104 },
+}
+
+impl<'a> Pages<'a> {
+    /// Refused where more records are said to be used than the slice has.
+    pub fn new(bytes: &'a [u8], used: usize) -> Result<Pages<'a>, PageError>
+        ensures ok { IfOk result (λ p. (p.bytes ≡ bytes.entry) × (p.used ≡ used) × (used ≤ whole bytes.now)) }
+        ensures overused { IfErr result (λ e. (e ≡ Overused) × (whole bytes.now < used)) }
+    {
+        if bytes.len() / Page::RECORD_SIZE < used {
+            return Err(PageError::Overused);
         }
-        i += 1;
+        Ok(Pages { bytes, used })
     }
-    Lookup::Absent
-}
 
-// Where the byte of an address stands in the slice.
-#[derive(Clone, Copy)]
-pub(crate) enum Place {
-    At(usize),
-    Absent,
-    Overused,
-}
+    /// The first used record with the number.
+    pub fn record_of(&self, number: u64) -> Option<usize>
+        ensures { Ok result ≡ lookup self.now.bytes.now self.now.used number }
+    {
+        for i in 0..self.used {
+            if u64::read(self.bytes, i * Page::RECORD_SIZE) == number {
+                return Some(i);
+            }
+        }
+        None
+    }
 
-pub(crate) fn place_of(pages: &[u8], used: usize, address: u64) -> Place
-    ensures { result ≡ place_of pages.now used address }
-{
-    let offset = (address % Page::ADDRESSES) as usize;
-    let found = page_lookup(pages, used, address / Page::ADDRESSES);
-    match found {
-        Lookup::Record(i) => Place::At(i * Page::RECORD_SIZE + Page::NUMBER_SIZE + offset),
-        Lookup::Absent => Place::Absent,
-        Lookup::Overused => Place::Overused,
+    // Where the byte of an address stands.
+    pub(crate) fn place_of(&self, address: u64) -> Option<usize>
+        ensures { result ≡ place_of self.now.bytes.now self.now.used address }
+    {
+        let offset = (address % Page::ADDRESSES) as usize;
+        match self.record_of(address / Page::ADDRESSES) {
+            Some(i) => Some(i * Page::RECORD_SIZE + Page::NUMBER_SIZE + offset),
+            None => None,
+        }
+    }
+
+    /// The number at an aligned address, zero-extended.
+    pub fn load<T: Number>(&self, address: u64) -> u64
+        requires { address % T.SIZE ≡ 0 }
+        ensures { result ≡ big T.SIZE (byte_at self.now.bytes.now self.now.used) address }
+    {
+        match self.place_of(address) {
+            Some(at) => T::read(self.bytes, at),
+            None => 0,
+        }
     }
 }
 
-// Makes a record the page with the number: the number, and zeros.
-fn open_page(pages: &mut [u8], next: usize, number: u64)
-    requires { next < whole pages.old }
-    ensures { pages.new ≡ open_page pages.old next number }
-{
-    let at = next * Page::RECORD_SIZE;
-    inside::put_doubleword(pages, at, number);
-    inside::clear(pages, at + Page::NUMBER_SIZE, Page::SIZE);
+/// Records that are lent to be written, and how many of them are used: no more than there are.
+#[derive(Drop)]
+pub struct PagesMut<'a> {
+    pub bytes: &'a mut [u8],
+    pub used: usize,
+    pub ghost within: { used ≤ length bytes.now / 4104 },
 }
 
-// Where a store to an address goes, and how many records are used then.
-#[derive(Clone, Copy)]
-pub(crate) enum Room {
-    At(usize, usize),
-    Full,
-    Overused,
-}
+impl<'a> PagesMut<'a> {
+    /// `fits` tests what it needs.
+    pub fn new(bytes: &'a mut [u8], used: usize) -> PagesMut<'a>
+        requires { used ≤ whole bytes.old }
+        ensures lent { result.bytes.ghost_name ≡ bytes.entry.ghost_name }
+        ensures same { (result.bytes.now ≡ bytes.old) × (result.used ≡ used) }
+    {
+        PagesMut { bytes, used }
+    }
 
-// The address's place, in the next record where its page was absent.
-pub(crate) fn make_room(pages: &mut [u8], used: usize, address: u64) -> Room
-    ensures { room result pages.new ≡ room_of pages.old used address }
-{
-    let place = place_of(pages, used, address);
-    match place {
-        Place::At(k) => Room::At(k, used),
-        Place::Overused => Room::Overused,
-        Place::Absent => {
-            if used < pages.len() / Page::RECORD_SIZE {
-                open_page(pages, used, address / Page::ADDRESSES);
+    /// The same records, to be read.
+    pub fn shared(&self) -> Pages<'_>
+        ensures { (result.bytes.now ≡ self.now.bytes.now) × (result.used ≡ self.now.used) }
+    {
+        Pages {
+            bytes: self.bytes,
+            used: self.used,
+        }
+    }
+
+    /// Whether each record is used.
+    pub fn is_full(&self) -> bool
+        ensures full { OnTrue result (self.now.used ≡ whole self.now.bytes.now) }
+        ensures room { OnFalse result (self.now.used < whole self.now.bytes.now) }
+    {
+        self.used == self.bytes.len() / Page::RECORD_SIZE
+    }
+
+    // Makes the next record the page with the number: the number, and zeros.
+    fn open(&mut self, number: u64) -> usize
+        requires { self.old.used < whole self.old.bytes.now }
+        ensures lent { self.new.bytes.ghost_name ≡ self.old.bytes.ghost_name }
+        ensures bytes { self.new.bytes.now ≡ open_page self.old.bytes.now self.old.used number }
+        ensures used { self.new.used ≡ self.old.used + 1 }
+        ensures place { result ≡ self.old.used }
+    {
+        let next = self.used;
+        let at = next * Page::RECORD_SIZE;
+        let bytes = &mut *self.bytes;
+        number.write(bytes, at);
+        spans::clear(bytes, at + Page::NUMBER_SIZE, Page::SIZE);
+        self.used = next + 1;
+        next
+    }
+
+    /// Stores the number at an aligned address. An absent page takes the next record; nothing changes where none is left.
+    pub fn store<T: Number>(&mut self, address: u64, value: T) -> Result<(), NoRecordLeft>
+        requires { address % T.SIZE ≡ 0 }
+        ensures lent { self.new.bytes.ghost_name ≡ self.old.bytes.ghost_name }
+        ensures ok { OnOk result (stored (Ok self.new.used) self.new.bytes.now ≡ store_def self.old.bytes.now self.old.used address (bytes_of T.SIZE (T.value value))) }
+        ensures full { OnErr result (stored (Err Full) self.old.bytes.now ≡ store_def self.old.bytes.now self.old.used address (bytes_of T.SIZE (T.value value))) }
+        ensures err { OnErr result ((self.new.bytes.now ≡ self.old.bytes.now) × (self.new.used ≡ self.old.used)) }
+    {
+        match self.shared().place_of(address) {
+            Some(at) => {
+                let bytes = &mut *self.bytes;
+                value.write(bytes, at);
+                Ok(())
+            }
+            None => {
+                if self.is_full() {
+                    return Err(NoRecordLeft);
+                }
+                let next = self.open(address / Page::ADDRESSES);
                 let offset = (address % Page::ADDRESSES) as usize;
-                let at = used * Page::RECORD_SIZE + Page::NUMBER_SIZE + offset;
-                Room::At(at, used + 1)
-            } else {
-                Room::Full
+                let at = next * Page::RECORD_SIZE + Page::NUMBER_SIZE + offset;
+                let bytes = &mut *self.bytes;
+                value.write(bytes, at);
+                Ok(())
             }
         }
     }
+}
+
+/// Whether the slice has so many records.
+pub fn fits(bytes: &[u8], used: usize) -> bool
+    ensures yes { OnTrue result (used ≤ whole bytes.now) }
+    ensures no { OnFalse result (whole bytes.now < used) }
+{
+    used <= bytes.len() / Page::RECORD_SIZE
+}
+
+/// The first used record with the number.
+pub fn page_lookup(pages: &[u8], used: usize, number: u64) -> Result<Option<usize>, PageError>
+    ensures { result ≡ lookup pages.now used number }
+{
+    let records = Pages::new(pages, used)?;
+    Ok(records.record_of(number))
 }

@@ -1,9 +1,13 @@
-use Rattle.pages.proofs.Laws.Loads.{read_over, read_some_lem}
+use Rattle.std.proofs.Common.{rules}
+use Rattle.pages.proofs.Laws.Loads.{read_over, read_fits}
 use Rattle.pages.proofs.reader.Position.read.Goals as goal
 
-pub returns-then-pages-used : goal.returns-then-pages-used
-returns-then-pages-used c = read_over _ _ _ _ c.if-pages-used.true
+pub returns-in_err-records : goal.returns-in_err-records
+returns-in_err-records c =
+    let h = read_over c.args.pages.now c.args.used c.args.self.now c.args.buf.now in
+    search rules
 
 pub returns : goal.returns
 returns c =
-    read_some_lem _ _ _ _ c.if-pages-used.false c.least-n.ensures c.wrapping_add_u64-address.ensures.value c.copy_memory.ensures
+    let s = c.in_ok-records.ensures.ok in
+    read_fits _ _ _ _ s.2 c.min-n.ensures (rw (s.0, s.1) at c.copy.ensures)
