@@ -5,13 +5,11 @@ ghost use Rattle.interpreter.specs.Plan.{eight_at};
 ghost use Rattle.interpreter.specs.Ideal.{remember};
 ghost use Rattle.interpreter.specs.Shown.{shown_at, shown, step_shown};
 ghost use Rattle.interpreter.specs.Parts.{store_of, call_shown, change_shown};
-ghost use Rattle.interpreter.specs.declared.effect.Touch.TheVariants.{Nothing};
-ghost use Rattle.interpreter.specs.declared.shown.Made.TheVariants.{Stepped};
 
 use crate::effect::{Change, Effect, Refusal, Touch};
 use crate::linux::Call;
+use crate::machine::{Input, Machine};
 use crate::state::Cpu;
-use crate::step::Next;
 use crate::{cpu, step, syscall};
 
 // What becomes of such a step.
@@ -50,28 +48,41 @@ fn kept(t: Touch, x: u64, store: bool, mem: u64) -> u64
     }
 }
 
-// A call that touches nothing.
-fn untouching(n: Next) -> Made
-    ensures { result ≡ Stepped n.cpu Nothing 0 }
-{
-    let cpu = n.cpu;
-    Made::Stepped(cpu, Touch::Nothing, 0)
-}
-
-// A system call, once the step is counted.
+// A system call, once the step is counted: that of a machine with no bytes.
 fn call(c: Cpu, regs: &mut [u64; 32], key: &mut [u8; 32], x: u64) -> Made
     ensures { shown result regs.new key.new ≡ call_shown c regs.old key.old x }
 {
     let called = syscall::call_in(c, regs);
+    let mut machine = Machine {
+        cpu: c,
+        regs,
+        key,
+        pages: &mut [],
+        used: 0,
+        hint: &mut [],
+        output: &mut [],
+        input: Input {
+            index: &[],
+            bytes: &[],
+        },
+    };
     match called {
-        Call::Answer(v, e) => untouching(syscall::answered(c, regs, 0, v, e)),
-        Call::Heap(heap) => untouching(syscall::grown(c, regs, 0, heap)),
-        Call::Exit(code) => untouching(syscall::exited(c, 0, code)),
+        Call::Answer(v, e) => {
+            machine.answered(v, e);
+            Made::Stepped(machine.cpu, Touch::Nothing, 0)
+        }
+        Call::Heap(heap) => {
+            machine.grown(heap);
+            Made::Stepped(machine.cpu, Touch::Nothing, 0)
+        }
+        Call::Exit(code) => {
+            machine.exited(code);
+            Made::Stepped(machine.cpu, Touch::Nothing, 0)
+        }
         Call::Key => {
-            let a = step::aligned(regs[5]);
-            let n = syscall::keyed_by(c, regs, key, 0, x);
-            let cpu = n.cpu;
-            Made::Stepped(cpu, Touch::Eight(a), x)
+            let a = step::aligned(machine.regs[5]);
+            machine.keyed_by(x);
+            Made::Stepped(machine.cpu, Touch::Eight(a), x)
         }
         Call::Input => Made::Wide,
         Call::Write(stream) => Made::Wide,
