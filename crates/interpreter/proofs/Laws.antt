@@ -20,6 +20,7 @@ pub mod Inputs
 pub mod Utf8
 pub mod Hints
 pub mod Plans
+pub mod Lent
 pub mod Layout
 pub mod Codec
 pub mod Records

@@ -14,6 +14,7 @@ pub mod Hints
 pub mod Inputs
 pub mod Plan
 pub mod Step
+pub mod Lent
 pub mod Layout
 pub mod Records
 pub mod Recording

@@ -6,15 +6,13 @@ use Rattle.pages.specs.Memory.{Memory, span}
 use Rattle.pages.specs.Pages.{lookup, byte_at}
 use Rattle.pages.specs.Calls.{stored}
 use Rattle.interpreter.specs.declared.effect.Refusal.{Refusal}
+use Rattle.interpreter.specs.declared.effect.Refusal.{Refusal}
 use Rattle.interpreter.specs.declared.effect.Refusal.TheVariants.{NoRoom}
 use Rattle.interpreter.specs.declared.state.Cpu.{Cpu}
-use Rattle.interpreter.specs.declared.step.Answer.{Answer}
-use Rattle.interpreter.specs.declared.step.Answer.TheVariants.{Refused, Stepped as SteppedBy}
-use Rattle.interpreter.specs.declared.step.Next.{Next}
+use Rattle.interpreter.specs.declared.step.Answer.TheVariants.{Stepped as SteppedBy}
 use Rattle.interpreter.specs.declared.linux.Call.{Call}
 use Rattle.interpreter.specs.declared.record.Seen.{Seen}
 use Rattle.interpreter.specs.declared.record.Seen.TheVariants.{Wide as WideStep, Narrow}
-use Rattle.interpreter.specs.declared.run.Reached.{Reached}
 use Rattle.interpreter.specs.declared.effect.Ins.{Ins}
 use Rattle.interpreter.specs.declared.effect.Change.{Change}
 use Rattle.interpreter.specs.declared.window.Window.{Window}
@@ -38,24 +36,7 @@ use Rattle.interpreter.specs.Shown.{shown_at, Showing, stepped, shown, made_by}
 use Rattle.interpreter.specs.Hints.{text_of, heard}
 use Rattle.interpreter.specs.Step.{Left, left, putting, working}
 use Rattle.interpreter.specs.Records.{record_of}
-use Rattle.interpreter.specs.Runs.{Ran, ran, more, run_def}
-
--- ---- the step on lent registers
-
--- what it leaves, with the lent bytes as they are then
-abbrev pub after : Next → List ℕ → List ℕ → List ℕ → List ℕ → List ℕ → Left
-after n r k p h o = left n.answer (machine n.cpu r k n.used p h o) n.counts
-
--- what it answers where the step is not refused, and where it is
-abbrev pub doing : Answer → Cpu → ℕ → Next
-doing a c u = record { answer = a; cpu = c; used = u; counts = true }
-
-abbrev pub refusing : Cpu → ℕ → Refusal → Next
-refusing c u n = record { answer = Refused n; cpu = c; used = u; counts = false }
-
--- what its repetition leaves
-abbrev pub reached : Reached → List ℕ → List ℕ → List ℕ → List ℕ → List ℕ → Ran
-reached e r k p h o = ran e.answer (machine e.cpu r k e.used p h o) e.count
+use Rattle.interpreter.specs.Runs.{more, run_def}
 
 -- ---- the recording step
 

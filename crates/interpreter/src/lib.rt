@@ -29,6 +29,7 @@ mod key;
 
 // What the machine holds, and a state's bytes.
 pub mod layout;
+mod machine;
 pub mod state;
 
 // System calls (linux.rs), and what they work on.

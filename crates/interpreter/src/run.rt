@@ -1,22 +1,20 @@
 // The step repeated (document 01, "One step").
-ghost use Rattle.std.specs.Prelude.{◌≡◌, ℕ, ◌+◌, ◌^◌, ◌<◌, false, List};
-ghost use Rattle.interpreter.specs.Machine.{machine, bad};
-ghost use Rattle.interpreter.specs.Step.{machine_of};
+ghost use Rattle.std.specs.Prelude.{◌≡◌, ◌+◌, ◌-◌, ◌^◌, ◌<◌, ◌≤◌, false, ℕ, List};
+ghost use Rattle.interpreter.specs.Machine.{Machine, bad};
+ghost use Rattle.interpreter.specs.Step.{left, machine_of};
 ghost use Rattle.interpreter.specs.Runs.{is_stepped, more, ended, ran, stopped, run_def};
-ghost use Rattle.interpreter.specs.Parts.{after, reached};
+ghost use Rattle.interpreter.specs.Lent.{held, index_in, data_in, SameLoans};
 
 use crate::effect::Refusal;
+use crate::machine::{Input, Machine as Lent};
 use crate::state::{Cpu, State};
-use crate::step::{Answer, Next};
+use crate::step::{Answer, Made};
 use crate::{quick, step};
 
-// What the loop leaves beside the lent bytes: the last call's answer, the numbers, the used records, and how many steps were
-// unrefused and from unexited states.
+// The last call's answer, and how many steps were unrefused and from unexited states.
 #[derive(Clone, Copy)]
-pub(crate) struct Reached {
+pub(crate) struct Ended {
     pub answer: Answer,
-    pub cpu: Cpu,
-    pub used: usize,
     pub count: u64,
 }
 
@@ -43,73 +41,63 @@ fn is_stepped(a: Answer) -> bool
 }
 
 // The last call, after so many counted ones.
-fn last(n: Next, count: u64) -> Reached
+fn last(made: Made, count: u64) -> Ended
     requires { count + 1 < 2 ^ 64 }
-    ensures { (l k p h o : List ℕ) → reached result l k p h o ≡ more count (ended (after n l k p h o)) }
+    ensures { (m : Machine) → ran result.answer m result.count ≡ more count (ended (left made.answer m made.counts)) }
 {
-    let answer = n.answer;
-    let cpu = n.cpu;
-    if n.counts {
-        return Reached {
+    let answer = made.answer;
+    if made.counts {
+        return Ended {
             answer,
-            cpu,
-            used: n.used,
             count: count + 1,
         };
     }
-    Reached {
-        answer,
-        cpu,
-        used: n.used,
-        count,
-    }
+    Ended { answer, count }
 }
 
-// A run of a machine that is not refused with 1, on lent registers: a step keeps it so, and the test is made once.
-pub(crate) fn repeat(
-    c: Cpu,
-    regs: &mut [u64; 32],
-    key: &mut [u8; 32],
-    pages: &mut [u8],
-    used: usize,
-    hint: &mut [u8],
-    output: &mut [u8],
-    index: &[u8],
-    data: &[u8],
-    budget: u64,
-) -> Reached
-    requires { bad (machine c regs.old key.old used pages.old hint.old output.old) ≡ false }
-    ensures { reached result regs.new key.new pages.new hint.new output.new ≡ run_def index.now «data».now budget (machine c regs.old key.old used pages.old hint.old output.old) }
-{
-    let mut cpu = c;
-    let mut at = used;
-    let mut count = 0;
-    while count < budget {
-        let w = quick::go(cpu, regs, pages, at, budget - count);
-        cpu = w.cpu;
-        count += w.count;
-        if budget <= count {
-            return Reached {
-                answer: Answer::Stepped,
-                cpu,
-                used: at,
-                count,
-            };
-        }
-        let n = step::advance(cpu, regs, key, pages, at, hint, output, index, data);
-        let answer = n.answer;
-        if !is_stepped(answer) {
-            return last(n, count);
-        }
-        cpu = n.cpu;
-        at = n.used;
-        count += 1;
+impl Lent<'_, '_, '_, '_, '_, '_> {
+    // Many plain steps in a row, and how many they were.
+    fn hurry(&mut self, budget: u64) -> u64
+        requires { bad (held self.old) ≡ false }
+        ensures lent { SameLoans self.old self.new }
+        ensures within { result ≤ budget }
+        ensures fine { bad (held self.new) ≡ false }
+        ensures rest { run_def (index_in self.old) (data_in self.old) budget (held self.old) ≡ more result (run_def (index_in self.old) (data_in self.old) (budget - result) (held self.new)) }
+    {
+        let c = self.cpu;
+        let used = self.used;
+        let regs = &mut *self.regs;
+        let pages = &mut *self.pages;
+        let went = quick::go(c, regs, pages, used, budget);
+        self.cpu = went.cpu;
+        went.count
     }
-    Reached {
-        answer: Answer::Stepped,
-        cpu,
-        used: at,
-        count,
+
+    // A run of a machine that is not refused with 1: a step keeps it so, and the test is made once.
+    pub(crate) fn repeat(&mut self, budget: u64) -> Ended
+        requires { bad (held self.old) ≡ false }
+        ensures lent { SameLoans self.old self.new }
+        ensures machine { ran result.answer (held self.new) result.count ≡ run_def (index_in self.old) (data_in self.old) budget (held self.old) }
+    {
+        let mut count = 0;
+        while count < budget {
+            count += self.hurry(budget - count);
+            if budget <= count {
+                return Ended {
+                    answer: Answer::Stepped,
+                    count,
+                };
+            }
+            let made = self.advance();
+            if !is_stepped(made.answer) {
+                return last(made, count);
+            }
+            count += 1;
+        }
+        Ended {
+            answer: Answer::Stepped,
+            count,
+        }
     }
 }
 
@@ -147,15 +135,23 @@ pub fn run(
     }
     let mut regs = s.regs;
     let mut key = s.key;
-    let e = repeat(
-        c, &mut regs, &mut key, pages, used, hint, output, index, data, budget,
-    );
-    let answer = e.answer;
-    let state = e.cpu.with(regs, key);
+    let mut machine = Lent {
+        cpu: c,
+        regs: &mut regs,
+        key: &mut key,
+        pages,
+        used,
+        hint,
+        output,
+        input: Input { index, bytes: data },
+    };
+    let end = machine.repeat(budget);
+    let cpu = machine.cpu;
+    let used = machine.used;
     Stopped {
-        answer,
-        state,
-        used: e.used,
-        count: e.count,
+        answer: end.answer,
+        state: cpu.with(regs, key),
+        used,
+        count: end.count,
     }
 }

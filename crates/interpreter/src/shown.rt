@@ -8,8 +8,8 @@ ghost use Rattle.interpreter.specs.Parts.{call_shown, change_shown};
 
 use crate::effect::{Change, Refusal, Stop};
 use crate::linux::Call;
+use crate::machine::{Input, Machine};
 use crate::state::Cpu;
-use crate::step::Next;
 use crate::{cpu, step, syscall};
 
 /// Such a step: the numbers that it leaves, what it touched, and the touched eight bytes afterwards, 0 where it touched none.
@@ -50,30 +50,52 @@ fn kept(t: Option<u64>, x: u64, store: Option<u64>) -> u64
 }
 
 // A call that touches nothing.
-fn untouching(n: Next) -> Shown
-    ensures { Ok result ≡ stepped n.cpu None 0 }
+fn untouching(cpu: Cpu) -> Shown
+    ensures { Ok result ≡ stepped cpu None 0 }
 {
     Shown {
-        cpu: n.cpu,
+        cpu,
         touch: None,
         eight: 0,
     }
 }
 
-// A system call, once the step is counted.
+// A system call, once the step is counted: that of a machine with no bytes.
 fn call(c: Cpu, regs: &mut [u64; 32], key: &mut [u8; 32], x: u64) -> Result<Shown, Unshown>
     ensures { shown result regs.new key.new ≡ call_shown c regs.old key.old x }
 {
     let called = syscall::call_in(c, regs);
+    let mut machine = Machine {
+        cpu: c,
+        regs,
+        key,
+        pages: &mut [],
+        used: 0,
+        hint: &mut [],
+        output: &mut [],
+        input: Input {
+            index: &[],
+            bytes: &[],
+        },
+    };
     match called {
-        Call::Answer(v, e) => Ok(untouching(syscall::answered(c, regs, 0, v, e))),
-        Call::Heap(heap) => Ok(untouching(syscall::grown(c, regs, 0, heap))),
-        Call::Exit(code) => Ok(untouching(syscall::exited(c, 0, code))),
+        Call::Answer(v, e) => {
+            machine.answered(v, e);
+            Ok(untouching(machine.cpu))
+        }
+        Call::Heap(heap) => {
+            machine.grown(heap);
+            Ok(untouching(machine.cpu))
+        }
+        Call::Exit(code) => {
+            machine.exited(code);
+            Ok(untouching(machine.cpu))
+        }
         Call::Key => {
-            let a = step::aligned(regs[5]);
-            let n = syscall::keyed_by(c, regs, key, 0, x);
+            let a = step::aligned(machine.regs[5]);
+            machine.keyed_by(x);
             Ok(Shown {
-                cpu: n.cpu,
+                cpu: machine.cpu,
                 touch: Some(a),
                 eight: x,
             })

@@ -2,19 +2,18 @@
 ghost use Rattle.std.specs.Prelude.{◌≡◌, ℕ, ◌*◌, ◌/◌, ◌%◌, ◌<◌, ◌≤◌, List, Some};
 ghost use Rattle.pages.specs.Bytes.{big};
 ghost use Rattle.pages.specs.Pages.{byte_at};
-ghost use Rattle.pages.specs.Calls.{stored};
 ghost use Rattle.interpreter.specs.Machine.{reg, set_reg, room_of, machine, bad};
-ghost use Rattle.interpreter.specs.Plan.{does, changing, storing, eight_at, ins_of, touch_of, executing};
-ghost use Rattle.interpreter.specs.Step.{values_of, refused, putting, working, advance, machine_of, finished, in_place, step_def};
-ghost use Rattle.interpreter.specs.Parts.{after, doing, refusing};
+ghost use Rattle.interpreter.specs.Plan.{does, changing, storing, eight_at, ins_of, touch_of, executing, plan};
+ghost use Rattle.interpreter.specs.Step.{values_of, left, refused, putting, working, advance, machine_of, finished, in_place, step_def};
+ghost use Rattle.interpreter.specs.Lent.{held, index_in, data_in, SameLoans, worked, kept, put_by};
 ghost use Rattle.interpreter.specs.declared.effect.Refusal.TheVariants.{BadMachine};
 
 use crate::effect::{Change, Ins, Refusal, Stop};
 use crate::isa::IType;
+use crate::machine::{Input, Machine};
 use crate::state::{Cpu, State};
-use crate::{cpu, hint, syscall};
+use crate::{cpu, hint};
 use pages::memory;
-use pages::memory::StoreError;
 use pages::page::Page;
 
 // What a step answers.
@@ -61,13 +60,10 @@ fn said(kind: u8, first: u64, second: u64) -> Values
     }
 }
 
-// What a step leaves beside the lent bytes: the answer, the numbers, the used records, and whether it was an unrefused step
-// from an unexited state.
+// What a step answers, and whether it was an unrefused step from an unexited state.
 #[derive(Clone, Copy)]
-pub(crate) struct Next {
+pub(crate) struct Made {
     pub answer: Answer,
-    pub cpu: Cpu,
-    pub used: usize,
     pub counts: bool,
 }
 
@@ -128,66 +124,6 @@ pub(crate) fn set_reg(regs: &mut [u64; 32], i: u64, v: u64)
     }
 }
 
-// What an instruction stores, if anything.
-fn settle(pages: &mut [u8], used: usize, t: Option<u64>, e: Change) -> Result<usize, StoreError>
-    ensures { stored result pages.new ≡ putting pages.old used (storing t e) }
-{
-    match t {
-        None => Ok(used),
-        Some(a) => {
-            if let Some(m) = e.store {
-                return memory::set_doubleword(pages, used, a, m);
-            }
-            Ok(used)
-        }
-    }
-}
-
-pub(crate) fn refuse(c: Cpu, used: usize, n: Refusal) -> Next
-    ensures { result ≡ refusing c used n }
-{
-    Next {
-        answer: Answer::Refused(n),
-        cpu: c,
-        used,
-        counts: false,
-    }
-}
-
-pub(crate) fn doing(answer: Answer, c: Cpu, used: usize) -> Next
-    ensures { result ≡ doing answer c used }
-{
-    Next {
-        answer,
-        cpu: c,
-        used,
-        counts: true,
-    }
-}
-
-// An instruction that is no system call, once the kernel has said what it does.
-fn complete(
-    c: Cpu,
-    regs: &mut [u64; 32],
-    pages: &mut [u8],
-    used: usize,
-    t: Option<u64>,
-    e: Change,
-) -> Next
-    requires { e.dest < 32 }
-    ensures { (k h o x d : List ℕ) → after result regs.new k pages.new h o ≡ working x d (machine c regs.old k used pages.old h o) (λ v. does (changing v t e)) }
-{
-    let stored = settle(pages, used, t, e);
-    match stored {
-        Ok(u) => {
-            set_reg(regs, e.dest, e.value);
-            doing(Answer::Stepped, c.changed(e), u)
-        }
-        // A full memory: the other refusals of a store cannot come here.
-        Err(_) => refuse(c, used, Refusal::MemoryFull),
-    }
-}
-
 // The eight bytes that an instruction touches.
 pub(crate) fn touched(pages: &[u8], used: usize, t: Option<u64>) -> u64
     requires { (a : ℕ) → t ≡ Some a → a % 8 ≡ 0 }
@@ -223,62 +159,92 @@ pub(crate) fn touch_of(regs: &[u64; 32], word: u64) -> Option<u64>
     cpu::touch(word, register(regs, IType::decode(word).rs))
 }
 
-fn execute(
-    c: Cpu,
-    word: u64,
-    regs: &mut [u64; 32],
-    key: &mut [u8; 32],
-    pages: &mut [u8],
-    used: usize,
-    hint: &mut [u8],
-    output: &mut [u8],
-    index: &[u8],
-    data: &[u8],
-) -> Next
-    requires { c.hint ≤ room_of hint.old }
-    ensures { after result regs.new key.new pages.new hint.new output.new ≡ working index.now «data».now (machine c regs.old key.old used pages.old hint.old output.old) (λ s. executing s word (touch_of s.regs word)) }
-{
-    let t = touch_of(regs, word);
-    let mem = touched(pages, used, t);
-    let effect = cpu::kernel(ins_of(c, regs, word, mem));
-    match effect {
-        Ok(e) => complete(c, regs, pages, used, t, e),
-        Err(stop) => match stop {
-            Stop::Refused(n) => refuse(c, used, n),
-            Stop::Call => syscall::call(c, regs, key, pages, used, hint, output, index, data),
-        },
+impl Machine<'_, '_, '_, '_, '_, '_> {
+    // What an instruction stores, if anything.
+    fn settle(&mut self, t: Option<u64>, e: Change) -> Result<(), Refusal>
+        requires { (a : ℕ) → t ≡ Some a → a % 8 ≡ 0 }
+        ensures lent { SameLoans self.old self.new }
+        ensures machine { kept result (held self.new) ≡ put_by (held self.old) (putting self.old.pages.now self.old.used (storing t e)) }
+    {
+        match t {
+            None => Ok(()),
+            Some(a) => {
+                if let Some(m) = e.store {
+                    return self.store(a, m);
+                }
+                Ok(())
+            }
+        }
     }
-}
 
-// One step of a machine that is not refused with 1, on lent registers, so that many steps can follow each other without a copy.
-pub(crate) fn advance(
-    c: Cpu,
-    regs: &mut [u64; 32],
-    key: &mut [u8; 32],
-    pages: &mut [u8],
-    used: usize,
-    hint: &mut [u8],
-    output: &mut [u8],
-    index: &[u8],
-    data: &[u8],
-) -> Next
-    requires { c.hint ≤ room_of hint.old }
-    ensures { after result regs.new key.new pages.new hint.new output.new ≡ advance index.now «data».now (machine c regs.old key.old used pages.old hint.old output.old) }
-{
-    if c.exited {
-        return Next {
-            answer: Answer::Exited(c.code),
-            cpu: c,
-            used,
-            counts: false,
-        };
+    // An instruction that is no system call, once the kernel has said what it does.
+    fn complete(&mut self, t: Option<u64>, e: Change) -> Result<Answer, Refusal>
+        requires dest { e.dest < 32 }
+        requires touch { (a : ℕ) → t ≡ Some a → a % 8 ≡ 0 }
+        ensures lent { SameLoans self.old self.new }
+        ensures machine { worked result (held self.new) ≡ working (index_in self.old) (data_in self.old) (held self.old) (λ v. does (changing v t e)) }
+    {
+        self.settle(t, e)?;
+        self.set_register(e.dest, e.value);
+        self.cpu = self.cpu.changed(e);
+        Ok(Answer::Stepped)
     }
-    let n = c.counted();
-    if c.pc % 4 != 0 {
-        return refuse(n, used, Refusal::PcMisaligned);
+
+    fn execute(&mut self, word: u64) -> Result<Answer, Refusal>
+        requires { self.old.cpu.hint ≤ room_of self.old.hint.now }
+        ensures lent { SameLoans self.old self.new }
+        ensures machine { worked result (held self.new) ≡ working (index_in self.old) (data_in self.old) (held self.old) (λ s. executing s word (touch_of s.regs word)) }
+    {
+        let c = self.cpu;
+        let t = touch_of(self.regs, word);
+        let mem = self.touched(t);
+        let effect = cpu::kernel(ins_of(c, self.regs, word, mem));
+        match effect {
+            Ok(e) => self.complete(t, e),
+            Err(stop) => match stop {
+                Stop::Refused(n) => Err(n),
+                Stop::Call => self.call(),
+            },
+        }
     }
-    let word = fetch(pages, used, c.pc);
-    execute(n, word, regs, key, pages, used, hint, output, index, data)
+
+    // The instruction at pc, once the step is counted.
+    fn proceed(&mut self) -> Result<Answer, Refusal>
+        requires { self.old.cpu.hint ≤ room_of self.old.hint.now }
+        ensures lent { SameLoans self.old self.new }
+        ensures machine { worked result (held self.new) ≡ working (index_in self.old) (data_in self.old) (held self.old) plan }
+    {
+        if self.cpu.pc % 4 != 0 {
+            return Err(Refusal::PcMisaligned);
+        }
+        let word = self.fetch();
+        self.execute(word)
+    }
+
+    // One step of a machine that is not refused with 1.
+    pub(crate) fn advance(&mut self) -> Made
+        requires { self.old.cpu.hint ≤ room_of self.old.hint.now }
+        ensures lent { SameLoans self.old self.new }
+        ensures machine { left result.answer (held self.new) result.counts ≡ advance (index_in self.old) (data_in self.old) (held self.old) }
+    {
+        if self.cpu.exited {
+            return Made {
+                answer: Answer::Exited(self.cpu.code),
+                counts: false,
+            };
+        }
+        self.cpu = self.cpu.counted();
+        match self.proceed() {
+            Ok(answer) => Made {
+                answer,
+                counts: true,
+            },
+            Err(n) => Made {
+                answer: Answer::Refused(n),
+                counts: false,
+            },
+        }
+    }
 }
 
 // Refusal 1, but for the recording buffer.
@@ -324,16 +290,24 @@ pub fn step(
     }
     let mut regs = s.regs;
     let mut key = s.key;
-    let n = advance(
-        c, &mut regs, &mut key, pages, used, hint, output, index, data,
-    );
-    let answer = n.answer;
-    let state = n.cpu.with(regs, key);
+    let mut machine = Machine {
+        cpu: c,
+        regs: &mut regs,
+        key: &mut key,
+        pages,
+        used,
+        hint,
+        output,
+        input: Input { index, bytes: data },
+    };
+    let made = machine.advance();
+    let cpu = machine.cpu;
+    let used = machine.used;
     Finished {
-        answer,
-        state,
-        used: n.used,
-        counts: n.counts,
+        answer: made.answer,
+        state: cpu.with(regs, key),
+        used,
+        counts: made.counts,
     }
 }
 

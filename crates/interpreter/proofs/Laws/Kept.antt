@@ -62,7 +62,7 @@ storing_aligned : (t : Option ℕ) (e : Change) → Aligned (touched_at t) → A
 storing_aligned None e h = zero_aligned
 storing_aligned (Some a) e h = go e.store
   where
-    go : (m : Option ℕ) → Aligned (address_in (store_of (Eight a) m))
+    go : (m : Option ℕ) → Aligned (address_in (store_of (Some a) m))
     go (Some m) = h
     go None = zero_aligned
 

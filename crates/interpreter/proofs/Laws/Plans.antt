@@ -20,115 +20,137 @@ use Rattle.interpreter.specs.Effects.{Effect}
 use Rattle.interpreter.specs.declared.effect.Stop.TheVariants.{Refused as RefusedBy, Call as CallBy}
 use Rattle.interpreter.specs.Kernel.{kernel_def}
 use Rattle.interpreter.specs.declared.state.Cpu.{Cpu}
-use Rattle.interpreter.specs.declared.step.Next.{Next}
-use Rattle.interpreter.specs.declared.step.Answer.TheVariants.{Stepped, Wrote, Hint, Exited}
+use Rattle.interpreter.specs.declared.step.Answer.TheVariants.{Stepped, Wrote, Hint, Exited, Refused}
 use Rattle.interpreter.specs.declared.linux.Call.TheVariants.{Answer as Reply, Heap, Exit, Key, Input, Write, Hint as HintWrite}
 use Rattle.interpreter.specs.Machine.{Machine, machine, reg, set_reg, answering, counted, changed, onward, leaving, room_of}
 use Rattle.interpreter.specs.Inputs.{entry_of, inside, part_def, moving, moved, merged, shifting, shifted}
 use Rattle.interpreter.specs.declared.input.Entry.{Entry}
 use Rattle.interpreter.specs.declared.linux.Call.{Call}
 use Rattle.interpreter.specs.Hints.{heard}
-use Rattle.interpreter.specs.Parts.{after, refusing, doing, Listened, listened, listened_to, joined, listening}
+use Rattle.interpreter.specs.Parts.{Listened, listened, listened_to, joined, listening}
 use Rattle.interpreter.specs.Plan.{View, Deed, storing, does, changing, staying, replying, exiting, keying, wrote, writing, hinted, hearing, hinting, read, read_from, reading_in, reading, refuse, calling, call_in, eight_at, ins_of, touch_of, planned, executing, plan}
-use Rattle.interpreter.specs.Step.{Left, landed, putting, lay, settled, view_of, working, advance}
+use Rattle.interpreter.specs.Lent.{with_regs, Kept, kept, put_as, put_by}
+use Rattle.interpreter.specs.Step.{Left, left, with_cpu, landed, putting, lay, settled, view_of, working, advance}
 use Rattle.interpreter.proofs.Laws.Tests.{no_true}
-use Rattle.interpreter.proofs.Laws.Paging.{is_used, unstored}
 use Rattle.interpreter.proofs.Laws.Hints.{length_joined}
+
+abbrev is_made : Result (Unit {0}) Refusal → Bool
+is_made (Ok z) = true
+is_made (Err e) = false
+
+abbrev worked_by : Result (Unit {0}) Refusal → Machine → Left
+worked_by (Ok z) m = left Stepped m true
+worked_by (Err e) m = left (Refused e) m false
 
 module _ (c : Cpu) (r k : List ℕ) (u : ℕ) (p h o x d : List ℕ) where
   abbrev m0 : Machine
   m0 = machine c r k u p h o
 
-  full_as : (w : Deed) (s : Result ℕ StoreError) (q : List ℕ) → is_used s ≡ false → landed m0 w q s ≡ after (refusing c u MemoryFull) r k p h o
-  full_as w (Ok v) q e = no_true e
-  full_as w (Err z) q e = refl
+  -- all but the pages is as it was
+  put_rest : (q : List ℕ) (a : Result ℕ StoreError) {f : Result (Unit {0}) Refusal} {n : Machine} → kept f n ≡ put_as m0 q a → n ≡ machine c r k n.used n.pages h o
+  put_rest q (Ok w) e = let g = ap (λ (z : Kept). z.machine) e in g ∙ sym (ap (λ (z : Machine). machine c r k z.used z.pages h o) g)
+  put_rest q (Err z) e = let g = ap (λ (z : Kept). z.machine) e in g ∙ sym (ap (λ (z : Machine). machine c r k z.used z.pages h o) g)
+
+  landed_ok : (d : Deed) (q : List ℕ) (a : Result ℕ StoreError) {n : Machine} → kept (Ok tt) n ≡ put_as m0 q a → settled m0 d n.used n.pages ≡ landed m0 d q a
+  landed_ok d q (Ok w) e = ap (λ (z : Kept). settled m0 d z.machine.used z.machine.pages) e
+  landed_ok d q (Err z) e = no_true (ap (λ (z : Kept). is_made z.made) e)
+
+  landed_err : (d : Deed) (q : List ℕ) (a : Result ℕ StoreError) {f : Refusal} {n : Machine} → kept (Err f) n ≡ put_as m0 q a → left (Refused f) n false ≡ landed m0 d q a
+  landed_err d q (Ok w) e = no_true (sym (ap (λ (z : Kept). is_made z.made) e))
+  landed_err d q (Err z) e = ap (λ (z : Kept). worked_by z.made z.machine) e
 
   -- a deed whose store was not made
-  pub deed_full : (f : View → Deed) {s g : Result ℕ StoreError} {q : List ℕ} {n : Next} → stored s q ≡ putting p u (f (view_of x d m0)).store → s ≡ g → is_used g ≡ false
-      → n ≡ refusing c u MemoryFull → after n r k q h o ≡ working x d m0 (λ v. does (f v))
+  pub deed_full : (f : View → Deed) {g : Refusal} {n : Machine} → kept (Err g) n ≡ put_by m0 (putting p u (f (view_of x d m0)).store)
+      → left (Refused g) n false ≡ working x d m0 (λ v. does (f v))
   unfolding working lay
-  deed_full f {s} {g} {q} {n} e z w b = rw (b, unstored p u (f (view_of x d m0)).store e z w, ← e, z) (sym (full_as (f (view_of x d m0)) g q w))
+  deed_full f e = landed_err (f (view_of x d m0)) _ _ e
 
   -- a deed whose store was made, if it had one
-  pub deed_done : (f : View → Deed) {s : Result ℕ StoreError} {q : List ℕ} {w : ℕ} → stored s q ≡ putting p u (f (view_of x d m0)).store → s ≡ Ok w
-      → settled m0 (f (view_of x d m0)) w q ≡ working x d m0 (λ v. does (f v))
+  pub deed_done : (f : View → Deed) {n : Machine} → kept (Ok tt) n ≡ put_by m0 (putting p u (f (view_of x d m0)).store)
+      → settled m0 (f (view_of x d m0)) n.used n.pages ≡ working x d m0 (λ v. does (f v))
   unfolding working lay
-  deed_done f {s} {q} {w} e z = rw (← e, z)
+  deed_done f e = landed_ok (f (view_of x d m0)) _ _ e
 
-  pub change_done : (t : Option ℕ) (e : Change) {s : Result ℕ StoreError} {q l : List ℕ} {w : ℕ} {b : Cpu} {n : Next} → stored s q ≡ putting p u (storing t e) → s ≡ Ok w
-      → l ≡ set_reg r e.dest e.value → b ≡ changed c e → n ≡ doing Stepped b w → after n l k q h o ≡ working x d m0 (λ v. does (changing v t e))
+  pub change_done : (t : Option ℕ) (e : Change) {n q : Machine} {b : Cpu} → kept (Ok tt) n ≡ put_by m0 (putting p u (storing t e)) → q ≡ with_regs n (set_reg n.regs e.dest e.value)
+      → b ≡ changed q.cpu e → left Stepped (with_cpu q b) true ≡ working x d m0 (λ v. does (changing v t e))
   unfolding settled changing view_of
-  change_done t e i z y b g = rw (g, y, b) (deed_done (λ v. changing v t e) i z)
+  change_done t e {n} {q} {b} i z y = rw (y, z, put_rest _ _ i) (deed_done (λ v. changing v t e) i)
 
-  pub change_full : (t : Option ℕ) (e : Change) {s g : Result ℕ StoreError} {q : List ℕ} {n : Next} → stored s q ≡ putting p u (storing t e) → s ≡ g → is_used g ≡ false
-      → n ≡ refusing c u MemoryFull → after n r k q h o ≡ working x d m0 (λ v. does (changing v t e))
+  -- the same by what was stored
+  pub change_stored : (t : Option ℕ) (e : Change) {q l : List ℕ} {w : ℕ} {b : Cpu} → stored (Ok w) q ≡ putting p u (storing t e) → l ≡ set_reg r e.dest e.value → b ≡ changed c e
+      → left Stepped (machine b l k w q h o) true ≡ working x d m0 (λ v. does (changing v t e))
+  unfolding settled changing view_of working lay
+  change_stored t e i y b = rw (y, b, ← i)
+
+  pub change_full : (t : Option ℕ) (e : Change) {g : Refusal} {n : Machine} → kept (Err g) n ≡ put_by m0 (putting p u (storing t e))
+      → left (Refused g) n false ≡ working x d m0 (λ v. does (changing v t e))
   unfolding changing view_of
   change_full t e = deed_full (λ v. changing v t e)
 
   -- ---- the calls
 
-  pub reply_done : (a e : ℕ) {n : Next} {b : Cpu} {l : List ℕ} → l ≡ answering r a e → b ≡ staying c → n ≡ doing Stepped b u
-      → after n l k p h o ≡ working x d m0 (λ v. calling v (Reply a e))
+  pub reply_done : (a e : ℕ) {q : Machine} {b : Cpu} → q ≡ with_regs m0 (answering r a e) → b ≡ staying c
+      → left Stepped (with_cpu q b) true ≡ working x d m0 (λ v. calling v (Reply a e))
   unfolding working calling lay replying view_of settled
-  reply_done a e y z w = rw (w, z, y)
+  reply_done a e y z = rw (z, y)
 
-  pub heap_done : (a : ℕ) {n : Next} {b : Cpu} {l : List ℕ} → l ≡ answering r c.heap 0 → b ≡ onward c a c.offset c.hint → n ≡ doing Stepped b u
-      → after n l k p h o ≡ working x d m0 (λ v. calling v (Heap a))
+  pub heap_done : (a : ℕ) {q : Machine} {b : Cpu} → q ≡ with_regs m0 (answering r c.heap 0) → b ≡ onward c a c.offset c.hint
+      → left Stepped (with_cpu q b) true ≡ working x d m0 (λ v. calling v (Heap a))
   unfolding working calling lay replying view_of settled
-  heap_done a y z w = rw (w, z, y)
+  heap_done a y z = rw (z, y)
 
-  pub exit_done : (a : ℕ) {n : Next} {b : Cpu} → b ≡ leaving c a → n ≡ doing (Exited a) b u → after n r k p h o ≡ working x d m0 (λ v. calling v (Exit a))
+  pub exit_done : (a : ℕ) {b : Cpu} → b ≡ leaving c a → left (Exited a) (with_cpu m0 b) true ≡ working x d m0 (λ v. calling v (Exit a))
   unfolding working calling lay exiting view_of settled
-  exit_done a z w = rw (w, z)
+  exit_done a z = rw z
 
-  pub key_shifted : (y : ℕ) {n : Next} {b : Cpu} {l j : List ℕ} {g : ℕ} → g ≡ shifting (reg r 5) (reg r 6)
-      → j ≡ shifted k (row (cell (bytes_of 8 y)) (reg r 5 % 8) g) → l ≡ answering r g 0 → b ≡ onward c c.heap 0 c.hint → n ≡ doing Stepped b u
-      → after n l j p h o ≡ working x d m0 (λ v. does (keying v y))
+  pub key_shifted : (y : ℕ) {q : Machine} {b : Cpu} {j : List ℕ} {g : ℕ} → g ≡ shifting (reg r 5) (reg r 6)
+      → j ≡ shifted k (row (cell (bytes_of 8 y)) (reg r 5 % 8) g) → q ≡ machine c (answering r g 0) j u p h o → b ≡ onward c c.heap 0 c.hint
+      → left Stepped (with_cpu q b) true ≡ working x d m0 (λ v. does (keying v y))
   unfolding working lay keying view_of settled
-  key_shifted y z1 z2 z3 z4 z5 = rw (z5, z4, z3, z2, z1)
+  key_shifted y z1 z2 z3 z4 = rw (z4, z3, z2, z1)
 
   pub key_done : {f : Left} {y a : ℕ} → a ≡ reg r 5 / 8 * 8 → y ≡ big 8 (byte_at p u) a → f ≡ working x d m0 (λ v. does (keying v y)) → f ≡ working x d m0 (λ v. calling v Key)
   unfolding working calling view_of
   key_done z1 z2 q = q ∙ rw (z2, z1)
 
-  pub write_done : (s : ℕ) {n : Next} {b : Cpu} {l q : List ℕ} → reg r 6 ≤ length o → q ≡ put_def o 0 (span (byte_at p u) (reg r 5) (reg r 6))
-      → l ≡ answering r (reg r 6) 0 → b ≡ staying c → n ≡ doing (Wrote s (reg r 6)) b u → after n l k p h q ≡ working x d m0 (λ v. calling v (Write s))
+  pub write_done : (s : ℕ) {q : Machine} {b : Cpu} {g : List ℕ} → reg r 6 ≤ length o → g ≡ put_def o 0 (span (byte_at p u) (reg r 5) (reg r 6))
+      → q ≡ machine c (answering r (reg r 6) 0) k u p h g → b ≡ staying c → left (Wrote s (reg r 6)) (with_cpu q b) true ≡ working x d m0 (λ v. calling v (Write s))
   unfolding working calling writing wrote lay view_of settled
-  write_done s i y z2 z3 z4 =
+  write_done s i y z2 z3 =
       let g = length_span (byte_at p u) (reg r 5) (reg r 6) in
-      rw (z4, z3, z2, y, put_fits o 0 (span (byte_at p u) (reg r 5) (reg r 6)) (omega arith), le-leb (reg r 6) (length o) i)
+      rw (z3, z2, y, put_fits o 0 (span (byte_at p u) (reg r 5) (reg r 6)) (omega arith), le-leb (reg r 6) (length o) i)
 
-  pub write_refused : (s : ℕ) {n : Next} → length o < reg r 6 → n ≡ refusing c u NoRoom → after n r k p h o ≡ working x d m0 (λ v. calling v (Write s))
+  pub write_refused : (s : ℕ) → length o < reg r 6 → left (Refused NoRoom) m0 false ≡ working x d m0 (λ v. calling v (Write s))
   unfolding working calling writing lay view_of
-  write_refused s i y = rw (y, lt-leb _ _ i)
+  write_refused s i = rw (lt-leb _ _ i)
 
   -- ---- 5000 on 5
 
-  read_store : (t : List ℕ) {s : Result ℕ StoreError} {q : List ℕ} {g y z a : ℕ} → g ≡ moving (length t) c.offset (reg r 5) (reg r 6) → a ≡ reg r 5 / 8 * 8
-      → y ≡ big 8 (byte_at p u) a → z ≡ merged y (reg r 5 % 8) (moved t c.offset g) → stored s q ≡ set_def 8 p u a z
-      → stored s q ≡ putting p u (read_from (view_of x d m0) t).store
+  read_store : (t : List ℕ) {f : Result (Unit {0}) Refusal} {n : Machine} {g y z a : ℕ} → g ≡ moving (length t) c.offset (reg r 5) (reg r 6) → a ≡ reg r 5 / 8 * 8
+      → y ≡ big 8 (byte_at p u) a → z ≡ merged y (reg r 5 % 8) (moved t c.offset g) → kept f n ≡ put_by m0 (set_def 8 p u a z)
+      → kept f n ≡ put_by m0 (putting p u (read_from (view_of x d m0) t).store)
   unfolding read view_of
   read_store t z1 z2 z3 z4 e = e ∙ rw (z4, z3, z2, z1)
 
-  pub read_done : (t : List ℕ) {s : Result ℕ StoreError} {q l : List ℕ} {g y z a w i : ℕ} {b : Cpu} {n : Next} → g ≡ moving (length t) c.offset (reg r 5) (reg r 6) → a ≡ reg r 5 / 8 * 8
-      → y ≡ big 8 (byte_at p u) a → z ≡ merged y (reg r 5 % 8) (moved t c.offset g) → stored s q ≡ set_def 8 p u a z → s ≡ Ok w
-      → l ≡ answering r g 0 → i ≡ plus c.offset g → b ≡ onward c c.heap i c.hint → n ≡ doing Stepped b w
-      → after n l k q h o ≡ working x d m0 (λ v. does (read_from v t))
+  pub read_done : (t : List ℕ) {n q : Machine} {g y z a i : ℕ} {b : Cpu} → g ≡ moving (length t) c.offset (reg r 5) (reg r 6) → a ≡ reg r 5 / 8 * 8
+      → y ≡ big 8 (byte_at p u) a → z ≡ merged y (reg r 5 % 8) (moved t c.offset g) → kept (Ok tt) n ≡ put_by m0 (set_def 8 p u a z)
+      → q ≡ with_regs n (answering n.regs g 0) → i ≡ plus c.offset g → b ≡ onward c c.heap i c.hint
+      → left Stepped (with_cpu q b) true ≡ working x d m0 (λ v. does (read_from v t))
   unfolding settled read view_of
-  read_done t z1 z2 z3 z4 e f y1 y2 y3 y4 = rw (y4, y3, y2, y1, z1) (deed_done (λ v. read_from v t) (read_store t z1 z2 z3 z4 e) f)
+  read_done t z1 z2 z3 z4 e y1 y2 y3 = let s = read_store t z1 z2 z3 z4 e in rw (y3, y2, y1, put_rest _ _ s, z1) (deed_done (λ v. read_from v t) s)
 
-  pub read_full : (t : List ℕ) {s f : Result ℕ StoreError} {q : List ℕ} {g y z a : ℕ} {n : Next} → g ≡ moving (length t) c.offset (reg r 5) (reg r 6) → a ≡ reg r 5 / 8 * 8
-      → y ≡ big 8 (byte_at p u) a → z ≡ merged y (reg r 5 % 8) (moved t c.offset g) → stored s q ≡ set_def 8 p u a z → s ≡ f → is_used f ≡ false
-      → n ≡ refusing c u MemoryFull → after n r k q h o ≡ working x d m0 (λ v. does (read_from v t))
+  pub read_full : (t : List ℕ) {f : Refusal} {n : Machine} {g y z a : ℕ} → g ≡ moving (length t) c.offset (reg r 5) (reg r 6) → a ≡ reg r 5 / 8 * 8
+      → y ≡ big 8 (byte_at p u) a → z ≡ merged y (reg r 5 % 8) (moved t c.offset g) → kept (Err f) n ≡ put_by m0 (set_def 8 p u a z)
+      → left (Refused f) n false ≡ working x d m0 (λ v. does (read_from v t))
   read_full t z1 z2 z3 z4 e = deed_full (λ v. read_from v t) (read_store t z1 z2 z3 z4 e)
 
   -- ---- 5001 on 4
 
   -- what a write to the hint descriptor leaves, by what was heard
   abbrev hint_left : Result (Option ℕ) Refusal → List ℕ → List ℕ → Left
-  hint_left (Err n) g e = after (refusing c u n) r k p g e
-  hint_left (Ok None) g e = after (doing Stepped (onward c c.heap c.offset (plus c.hint (reg r 6))) u) (answering r (reg r 6) 0) k p g e
-  hint_left (Ok (Some n)) g e = after (doing (Hint n) (onward c c.heap c.offset 0) u) (answering r (reg r 6) 0) k p g e
+  hint_left (Err n) g e = left (Refused n) (machine c r k u p g e) false
+  hint_left (Ok None) g e = left Stepped (machine (onward c c.heap c.offset (plus c.hint (reg r 6))) (answering r (reg r 6) 0) k u p g e) true
+  hint_left (Ok (Some n)) g e = left (Hint n) (machine (onward c c.heap c.offset 0) (answering r (reg r 6) 0) k u p g e) true
 
   abbrev hint_as : Listened → Left
   hint_as z = hint_left z.heard z.hint z.output
@@ -165,37 +187,38 @@ module _ (c : Cpu) (r k : List ℕ) (u : ℕ) (p h o x d : List ℕ) where
       → l ≡ working x d m0 (λ v. calling v HintWrite)
   hint_done {g} {f} {e} {q} y z b = b ∙ ap (λ f. hint_left f e q) (sym z) ∙ ap hint_as y ∙ hint_as_lem
 
-  pub hint_refused : {g : Result (Option ℕ) Refusal} {f : Refusal} {e q : List ℕ} {n : Next} → listened g e q ≡ listening (byte_at p u) h c.hint (reg r 5) (reg r 6) o → g ≡ Err f
-      → n ≡ refusing c u f → after n r k p e q ≡ working x d m0 (λ v. calling v HintWrite)
-  hint_refused y z b = hint_done y z (rw b)
+  pub hint_refused : {g : Result (Option ℕ) Refusal} {f : Refusal} {e q : List ℕ} → listened g e q ≡ listening (byte_at p u) h c.hint (reg r 5) (reg r 6) o → g ≡ Err f
+      → left (Refused f) (machine c r k u p e q) false ≡ working x d m0 (λ v. calling v HintWrite)
+  hint_refused y z = hint_done y z refl
 
-  pub hint_kept : {g : Result (Option ℕ) Refusal} {e q l : List ℕ} {n : Next} {b : Cpu} {a : ℕ} → listened g e q ≡ listening (byte_at p u) h c.hint (reg r 5) (reg r 6) o → g ≡ Ok None
-      → l ≡ answering r (reg r 6) 0 → a ≡ plus c.hint (reg r 6) → b ≡ onward c c.heap c.offset a → n ≡ doing Stepped b u
-      → after n l k p e q ≡ working x d m0 (λ v. calling v HintWrite)
-  hint_kept y z b1 b2 b3 b4 = hint_done y z (rw (b4, b3, b2, b1))
+  pub hint_kept : {g : Result (Option ℕ) Refusal} {e z : List ℕ} {q : Machine} {b : Cpu} {a : ℕ} → listened g e z ≡ listening (byte_at p u) h c.hint (reg r 5) (reg r 6) o → g ≡ Ok None
+      → q ≡ machine c (answering r (reg r 6) 0) k u p e z → a ≡ plus c.hint (reg r 6) → b ≡ onward c c.heap c.offset a
+      → left Stepped (with_cpu q b) true ≡ working x d m0 (λ v. calling v HintWrite)
+  hint_kept y z b1 b2 b3 = hint_done y z (rw (b3, b2, b1))
 
-  pub hint_handed : {g : Result (Option ℕ) Refusal} {f : ℕ} {e q l : List ℕ} {n : Next} {b : Cpu} → listened g e q ≡ listening (byte_at p u) h c.hint (reg r 5) (reg r 6) o → g ≡ Ok (Some f)
-      → l ≡ answering r (reg r 6) 0 → b ≡ onward c c.heap c.offset 0 → n ≡ doing (Hint f) b u → after n l k p e q ≡ working x d m0 (λ v. calling v HintWrite)
-  hint_handed y z b1 b2 b3 = hint_done y z (rw (b3, b2, b1))
+  pub hint_handed : {g : Result (Option ℕ) Refusal} {f : ℕ} {e z : List ℕ} {q : Machine} {b : Cpu} → listened g e z ≡ listening (byte_at p u) h c.hint (reg r 5) (reg r 6) o → g ≡ Ok (Some f)
+      → q ≡ machine c (answering r (reg r 6) 0) k u p e z → b ≡ onward c c.heap c.offset 0
+      → left (Hint f) (with_cpu q b) true ≡ working x d m0 (λ v. calling v HintWrite)
+  hint_handed y z b1 b2 = hint_done y z (rw (b2, b1))
 
   -- ---- 5000 on 5, from the index to the offset
 
-  pub offset_past : (t : List ℕ) {n : Next} {g : ℕ} → g ≡ c.offset - 8 → length t < g → n ≡ refusing c u InputOffset → after n r k p h o ≡ working x d m0 (λ v. reading_in v t)
+  pub offset_past : (t : List ℕ) {g : ℕ} → g ≡ c.offset - 8 → length t < g → left (Refused InputOffset) m0 false ≡ working x d m0 (λ v. reading_in v t)
   unfolding working reading_in lay view_of
-  offset_past t e i y = rw (y, lt-ltb (8 + length t) c.offset (omega arith))
+  offset_past t e i = rw (lt-ltb (8 + length t) c.offset (omega arith))
 
   pub offset_in : (t : List ℕ) {l : Left} {g : ℕ} → g ≡ c.offset - 8 → g ≤ length t → l ≡ working x d m0 (λ v. does (read_from v t)) → l ≡ working x d m0 (λ v. reading_in v t)
   unfolding working reading_in view_of
   offset_in t e i y = y ∙ rw (le-ltb (8 + length t) c.offset (omega arith))
 
-  pub input_absent : {e : Option Entry} {n : Next} → e ≡ entry_of x k → e ≡ None → n ≡ refusing c u NoInput → after n r k p h o ≡ working x d m0 (λ v. calling v Input)
+  pub input_absent : {e : Option Entry} → e ≡ entry_of x k → e ≡ None → left (Refused NoInput) m0 false ≡ working x d m0 (λ v. calling v Input)
   unfolding working calling reading lay view_of
-  input_absent y z w = rw (w, ← y, z)
+  input_absent y z = rw (← y, z)
 
-  pub input_outside : {e : Option Entry} {f : Entry} {b : Bool} {n : Next} → e ≡ entry_of x k → e ≡ Some f → b ≡ inside d f.start f.length → b ≡ false → n ≡ refusing c u NoInput
-      → after n r k p h o ≡ working x d m0 (λ v. calling v Input)
+  pub input_outside : {e : Option Entry} {f : Entry} {b : Bool} → e ≡ entry_of x k → e ≡ Some f → b ≡ inside d f.start f.length → b ≡ false
+      → left (Refused NoInput) m0 false ≡ working x d m0 (λ v. calling v Input)
   unfolding working calling reading lay view_of
-  input_outside y z i f w = rw (w, ← y, z, ← i, f)
+  input_outside y z i f = rw (← y, z, ← i, f)
 
   pub input_part : {e : Option Entry} {f : Entry} {b : Bool} {t : List ℕ} {l : Left} → e ≡ entry_of x k → e ≡ Some f → b ≡ inside d f.start f.length → b ≡ true → t ≡ part_def d f.start f.length
       → l ≡ working x d m0 (λ v. reading_in v t) → l ≡ working x d m0 (λ v. calling v Input)
@@ -213,9 +236,9 @@ module _ (c : Cpu) (r k : List ℕ) (u : ℕ) (p h o x d : List ℕ) where
     unfolding working executing view_of
     exec_by g q = q ∙ rw (← z1, ← z2, ← z3, ← z4, g)
 
-    pub exec_refused : {f : Refusal} {n : Next} → e ≡ Err (RefusedBy f) → n ≡ refusing c u f → after n r k p h o ≡ working x d m0 (λ v. executing v w (touch_of v.regs w))
+    pub exec_refused : {f : Refusal} → e ≡ Err (RefusedBy f) → left (Refused f) m0 false ≡ working x d m0 (λ v. executing v w (touch_of v.regs w))
     unfolding working planned lay
-    exec_refused {f} {n} g q = exec_by g (rw q)
+    exec_refused {f} g = exec_by g refl
 
     pub exec_call : {l : Left} → e ≡ Err CallBy → l ≡ working x d m0 (λ v. calling v (call_in v.cpu v.regs)) → l ≡ working x d m0 (λ v. executing v w (touch_of v.regs w))
     unfolding working planned
@@ -225,15 +248,27 @@ module _ (c : Cpu) (r k : List ℕ) (u : ℕ) (p h o x d : List ℕ) where
     unfolding working planned
     exec_done g q = exec_by g q
 
-  pub step_exited : c.exited ≡ true → after (record { answer = Exited c.code; cpu = c; used = u; counts = false }) r k p h o ≡ advance x d m0
-  unfolding advance
-  step_exited e = rw e
+  pub step_misaligned : (c.pc % 4 ≡ 0 → ⊥) → left (Refused PcMisaligned) m0 false ≡ working x d m0 plan
+  unfolding working plan executing kernel_def ins_of view_of planned lay
+  step_misaligned i = rw (ne_eqb _ _ i)
 
-  pub step_misaligned : {b : Cpu} {n : Next} → c.exited ≡ false → b ≡ counted c → (c.pc % 4 ≡ 0 → ⊥) → n ≡ refusing b u PcMisaligned → after n r k p h o ≡ advance x d m0
-  unfolding advance working plan executing kernel_def ins_of view_of counted planned lay
-  step_misaligned e y i z = rw (z, y, e, ne_eqb _ _ i)
+  pub step_planned : {w : ℕ} {l : Left} → w ≡ big 4 (byte_at p u) c.pc → l ≡ working x d m0 (λ v. executing v w (touch_of v.regs w)) → l ≡ working x d m0 plan
+  unfolding working plan view_of
+  step_planned z q = q ∙ rw z
 
   pub step_done : {b : Cpu} {w : ℕ} {l : Left} → c.exited ≡ false → b ≡ counted c → w ≡ big 4 (byte_at p u) c.pc
       → l ≡ working x d (machine b r k u p h o) (λ v. executing v w (touch_of v.regs w)) → l ≡ advance x d m0
   unfolding advance working plan view_of counted
   step_done e y z q = q ∙ rw (z, y, e)
+
+  pub step_unaligned : c.exited ≡ false → (c.pc % 4 ≡ 0 → ⊥) → left (Refused PcMisaligned) (machine (counted c) r k u p h o) false ≡ advance x d m0
+  unfolding advance working plan executing kernel_def ins_of view_of counted planned lay
+  step_unaligned e i = rw (e, ne_eqb _ _ i)
+
+  pub step_exited : c.exited ≡ true → left (Exited c.code) m0 false ≡ advance x d m0
+  unfolding advance
+  step_exited e = rw e
+
+  pub step_counted : {b : Cpu} {l : Left} → c.exited ≡ false → b ≡ counted c → l ≡ working x d (machine b r k u p h o) plan → l ≡ advance x d m0
+  unfolding advance
+  step_counted e y q = q ∙ rw (y, e)

@@ -26,7 +26,7 @@ use Rattle.interpreter.specs.Records.{rest_of, record_of}
 use Rattle.interpreter.specs.Recording.{calls, call_wide, call_touch, wide, touched, memory_of, state_in, word_in, record_from, recorded, Recorded, recording, recorded_def}
 use Rattle.interpreter.specs.Parts.{seen_call, seen, recording_as}
 use Rattle.interpreter.proofs.Laws.Dests.{calls_call, calls_done, calls_refused, touched_at, touch_even}
-use Rattle.interpreter.proofs.Laws.Plans.{step_misaligned}
+use Rattle.interpreter.proofs.Laws.Plans.{step_unaligned}
 use Rattle.interpreter.proofs.Laws.Layout.{state_parts}
 use Rattle.interpreter.proofs.Laws.Records.{record_whole}
 
@@ -115,7 +115,7 @@ uncounted_exited x d m e = rw e
 uncounted_by : (x d : List ℕ) (m : Machine) → (m.cpu.pc % 4 ≡ 0 → ⊥) → (t v : Bool) → m.cpu.exited ≡ v → (cond t (refused m BadMachine) (advance x d m)).counts ≡ false
 uncounted_by x d m h true v e = refl
 uncounted_by x d m h false true e = uncounted_exited x d m e
-uncounted_by x d m h false false e = sym (ap (λ (l : Left). l.counts) (step_misaligned m.cpu m.regs m.key m.used m.pages m.hint m.output x d e refl h refl))
+uncounted_by x d m h false false e = sym (ap (λ (l : Left). l.counts) (step_unaligned m.cpu m.regs m.key m.used m.pages m.hint m.output x d e h))
 
 uncounted : (x d : List ℕ) (m : Machine) → (m.cpu.pc % 4 ≡ 0 → ⊥) → (step_def x d m).counts ≡ false
 unfolding step_def

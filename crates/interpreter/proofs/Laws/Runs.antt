@@ -11,17 +11,15 @@ use Rattle.interpreter.specs.declared.state.Cpu.{Cpu}
 use Rattle.interpreter.specs.declared.state.State.{State}
 use Rattle.interpreter.specs.declared.step.Answer.{Answer}
 use Rattle.interpreter.specs.declared.step.Answer.TheVariants.{Stepped, Wrote, Hint, Exited, Refused}
-use Rattle.interpreter.specs.declared.run.Reached.{Reached}
 use Rattle.interpreter.specs.declared.linux.Call.{Call}
 use Rattle.interpreter.specs.declared.linux.Call.TheVariants.{Answer as Reply, Heap, Exit, Key, Input, Write, Hint as HintWrite}
 use Rattle.interpreter.specs.declared.input.Entry.{Entry}
-use Rattle.interpreter.specs.Machine.{Machine, machine, cpu_of, state_of, counted, bad}
+use Rattle.interpreter.specs.Machine.{Machine, machine, cpu_of, counted, bad}
 use Rattle.interpreter.specs.Inputs.{entry_of, inside, part_of}
 use Rattle.interpreter.specs.Hints.{heard}
 use Rattle.interpreter.specs.Plan.{View, Deed, Plan, refuse, does, changing, a2, call_in, replying, exiting, keying, wrote, writing, hinted, hearing, together, hinting, read, reading_in, reading_at, reading, calling, touch_of, planned, executing, word_of, plan}
 use Rattle.interpreter.specs.Step.{Left, left, refused, landed, putting, lay, settled, view_of, with_cpu, working, advance, step_def, machine_of}
-use Rattle.interpreter.specs.Runs.{Ran, ran, is_stepped, is_refused, tally, more, ended, onto, run_def, stopped, steps, last_of, works, Counted, all, one_more, Repeats}
-use Rattle.interpreter.specs.Parts.{reached}
+use Rattle.interpreter.specs.Runs.{Ran, ran, is_stepped, is_refused, tally, more, ended, onto, run_def, steps, last_of, works, Counted, all, one_more, Repeats}
 use Rattle.interpreter.proofs.Laws.Kept.{Each, step_keeps_good}
 use Rattle.interpreter.proofs.Laws.Steps.{bad_as}
 use Rattle.interpreter.proofs.Laws.Tests.{no_true, on, off}
@@ -75,6 +73,13 @@ module _ (x d : List ℕ) where
         let e : budget - count ≡ 0 = omega arith in
         sym (inv ∙ rw e (ap (ran Stepped m) (add-zero count)))
 
+-- many steps within a run
+pub run_went : (x d : List ℕ) (budget count n : ℕ) (m q : Machine) {t : Ran} → t ≡ more count (run_def x d (budget - count) m)
+    → run_def x d (budget - count) m ≡ more n (run_def x d (budget - count - n) q) → t ≡ more (count + n) (run_def x d (budget - (count + n)) q)
+run_went x d budget count n m q i g =
+    i ∙ ap (more count) g ∙ more_more count n (run_def x d (budget - count - n) q)
+    ∙ ap (λ (k : ℕ). more (count + n) (run_def x d k q)) (omega arith)
+
 -- ---- by value
 
 module _ (x d : List ℕ) (s : State) (u : ℕ) (p h o : List ℕ) where
@@ -87,10 +92,9 @@ module _ (x d : List ℕ) (s : State) (u : ℕ) (p h o : List ℕ) where
     unfolding step_def
     run_bad g e q = q ∙ sym (run_suc x d budget (machine_of s u p h o) g ∙ rw (← bad_as s u p h o z y, e))
 
-    pub run_value : {e : Reached} {b : State} {r k q g i : List ℕ} → reached e r k q g i ≡ run_def x d budget (machine c s.regs s.key u p h o) → b ≡ state_of e.cpu r k
-        → stopped (record { answer = e.answer; state = b; used = e.used; count = e.count }) q g i ≡ run_def x d budget (machine_of s u p h o)
-    unfolding cpu_of state_of
-    run_value q w = rw w (q ∙ rw z)
+    pub run_value : {r : Ran} → r ≡ run_def x d budget (machine c s.regs s.key u p h o) → r ≡ run_def x d budget (machine_of s u p h o)
+    unfolding cpu_of
+    run_value q = q ∙ rw z
 
 -- ---- which steps count: the unrefused ones from unexited states
 

@@ -15,19 +15,19 @@ use Rattle.interpreter.specs.declared.effect.Stop.TheVariants.{Refused as Refuse
 use Rattle.interpreter.specs.declared.effect.Refusal.{Refusal}
 use Rattle.interpreter.specs.declared.effect.Refusal.TheVariants.{PcMisaligned}
 use Rattle.interpreter.specs.declared.state.Cpu.{Cpu}
-use Rattle.interpreter.specs.declared.step.Next.{Next}
+use Rattle.interpreter.specs.declared.step.Answer.TheVariants.{Stepped as Answered, Exited}
 use Rattle.interpreter.specs.declared.linux.Call.{Call}
 use Rattle.interpreter.specs.declared.linux.Call.TheVariants.{Answer as Reply, Heap, Exit, Key, Input, Write, Hint}
 use Rattle.interpreter.specs.declared.shown.Shown.{Shown}
 use Rattle.interpreter.specs.declared.shown.Unshown.{Unshown}
 use Rattle.interpreter.specs.declared.shown.Unshown.TheVariants.{Refused, Wide}
-use Rattle.interpreter.specs.Machine.{reg, set_reg, changed, counted, machine}
+use Rattle.interpreter.specs.Machine.{reg, set_reg, changed, counted, machine, Machine}
 use Rattle.interpreter.specs.Plan.{View, Plan, does as doing, store_of, storing, changing, eight_at, keying, replying, exiting, call_in, calling, ins_of, touch_of, planned, executing}
-use Rattle.interpreter.specs.Step.{Left, lay, settled, view_of, working}
+use Rattle.interpreter.specs.Step.{Left, lay, settled, view_of, working, left}
 use Rattle.interpreter.specs.Recording.{calls, call_wide, call_touch, wide, touched}
 use Rattle.interpreter.specs.Ideal.{ideal, ideal_view, remember}
 use Rattle.interpreter.specs.Shown.{shown_at, effect_shown, plan_shown, shown, made_by, unless_refused, made_with, step_shown, Showing, stepped}
-use Rattle.interpreter.specs.Parts.{after, called_shown, call_shown, change_shown}
+use Rattle.interpreter.specs.Parts.{called_shown, call_shown, change_shown}
 use Rattle.interpreter.proofs.Laws.Tests.{no_true}
 use Rattle.interpreter.proofs.Laws.Dests.{calls_call, calls_done}
 
@@ -67,32 +67,29 @@ module _ (c : Cpu) (r k : List ℕ) (x : ℕ) where
   pub hint_made : {g : Call} → g ≡ call_in c r → g ≡ Hint → shown (Err Wide) r k ≡ call_shown c r k x
   hint_made y z = wide_made y (ap call_wide z)
 
-  abbrev stays : Next → List ℕ → List ℕ → Left
-  stays n l j = after n l j [] [] []
-
   abbrev works : (View → Plan) → Left
   works f = working [] [] (machine c r k 0 [] [] []) f
 
-  pub reply_made : {g : Call} (v e : ℕ) {n : Next} {l : List ℕ} {s : Result Shown Unshown} → g ≡ call_in c r → g ≡ Reply v e → stays n l k ≡ works (λ w. calling w (Reply v e))
-      → s ≡ stepped n.cpu None 0 → shown s l k ≡ call_shown c r k x
+  pub reply_made : {g : Call} (v e : ℕ) {m : Machine} {l j : List ℕ} → g ≡ call_in c r → g ≡ Reply v e → left Answered m true ≡ works (λ w. calling w (Reply v e))
+      → l ≡ m.regs → j ≡ m.key → shown (stepped m.cpu None 0) l j ≡ call_shown c r k x
   unfolding call_shown called_shown working lay settled calling replying view_of ideal_view
-  reply_made v e y z q i = rw (i, ← y, z, ap (λ (m : Left). m.machine.cpu) q, ap (λ (m : Left). m.machine.regs) q)
+  reply_made v e y z q a b = rw (a, b, ← y, z, ap (λ (m : Left). m.machine.cpu) q, ap (λ (m : Left). m.machine.regs) q, ap (λ (m : Left). m.machine.key) q)
 
-  pub heap_made : {g : Call} (v : ℕ) {n : Next} {l : List ℕ} {s : Result Shown Unshown} → g ≡ call_in c r → g ≡ Heap v → stays n l k ≡ works (λ w. calling w (Heap v))
-      → s ≡ stepped n.cpu None 0 → shown s l k ≡ call_shown c r k x
+  pub heap_made : {g : Call} (v : ℕ) {m : Machine} {l j : List ℕ} → g ≡ call_in c r → g ≡ Heap v → left Answered m true ≡ works (λ w. calling w (Heap v))
+      → l ≡ m.regs → j ≡ m.key → shown (stepped m.cpu None 0) l j ≡ call_shown c r k x
   unfolding call_shown called_shown working lay settled calling replying view_of ideal_view
-  heap_made v y z q i = rw (i, ← y, z, ap (λ (m : Left). m.machine.cpu) q, ap (λ (m : Left). m.machine.regs) q)
+  heap_made v y z q a b = rw (a, b, ← y, z, ap (λ (m : Left). m.machine.cpu) q, ap (λ (m : Left). m.machine.regs) q, ap (λ (m : Left). m.machine.key) q)
 
-  pub exit_made : {g : Call} (v : ℕ) {n : Next} {s : Result Shown Unshown} → g ≡ call_in c r → g ≡ Exit v → stays n r k ≡ works (λ w. calling w (Exit v))
-      → s ≡ stepped n.cpu None 0 → shown s r k ≡ call_shown c r k x
+  pub exit_made : {g : Call} (v : ℕ) {m : Machine} {l j : List ℕ} → g ≡ call_in c r → g ≡ Exit v → left (Exited v) m true ≡ works (λ w. calling w (Exit v))
+      → l ≡ m.regs → j ≡ m.key → shown (stepped m.cpu None 0) l j ≡ call_shown c r k x
   unfolding call_shown called_shown working lay settled calling exiting view_of ideal_view
-  exit_made v y z q i = rw (i, ← y, z, ap (λ (m : Left). m.machine.cpu) q)
+  exit_made v y z q a b = rw (a, b, ← y, z, ap (λ (m : Left). m.machine.cpu) q, ap (λ (m : Left). m.machine.regs) q, ap (λ (m : Left). m.machine.key) q)
 
-  pub key_made : {g : Call} {n : Next} {l j : List ℕ} {a : ℕ} → g ≡ call_in c r → g ≡ Key → a ≡ reg r 5 / 8 * 8 → x < 2 ^ 64 → stays n l j ≡ works (λ w. doing (keying w x))
-      → shown (stepped n.cpu (Some a) x) l j ≡ call_shown c r k x
+  pub key_made : {g : Call} {m : Machine} {l j : List ℕ} {i : ℕ} → g ≡ call_in c r → g ≡ Key → i ≡ reg r 5 / 8 * 8 → x < 2 ^ 64 → left Answered m true ≡ works (λ w. doing (keying w x))
+      → l ≡ m.regs → j ≡ m.key → shown (stepped m.cpu (Some i) x) l j ≡ call_shown c r k x
   unfolding call_shown called_shown working lay settled calling keying view_of ideal_view shown_at
-  key_made y z a h q =
-      rw (← y, z, a, write_back (λ b. 0) (reg r 5 / 8 * 8) x h, ap (λ (m : Left). m.machine.cpu) q, ap (λ (m : Left). m.machine.regs) q, ap (λ (m : Left). m.machine.key) q)
+  key_made y z i h q a b =
+      rw (a, b, ← y, z, i, write_back (λ b. 0) (reg r 5 / 8 * 8) x h, ap (λ (m : Left). m.machine.cpu) q, ap (λ (m : Left). m.machine.regs) q, ap (λ (m : Left). m.machine.key) q)
 
 -- ---- the whole step
 

@@ -3,10 +3,8 @@ use Rattle.std.proofs.Common.{◌≡◌, ℕ, ◌/◌, ◌<◌, ◌≤◌, Bool,
 use Rattle.interpreter.specs.declared.effect.Refusal.TheVariants.{BadMachine}
 use Rattle.interpreter.specs.declared.state.Cpu.{Cpu}
 use Rattle.interpreter.specs.declared.state.State.{State}
-use Rattle.interpreter.specs.declared.step.Next.{Next}
-use Rattle.interpreter.specs.Machine.{machine, cpu_of, state_of, room_of, formless, bad}
-use Rattle.interpreter.specs.Step.{Left, refused, advance, step_def, machine_of, finished}
-use Rattle.interpreter.specs.Parts.{after}
+use Rattle.interpreter.specs.Machine.{machine, cpu_of, room_of, formless, bad}
+use Rattle.interpreter.specs.Step.{Left, refused, advance, step_def, machine_of}
 use Rattle.interpreter.proofs.Laws.Kept.{formed}
 
 module _ (c : Cpu) (r k : List ℕ) (u : ℕ) (p h o : List ℕ) where
@@ -35,7 +33,6 @@ module _ (x d : List ℕ) (s : State) (u : ℕ) (p h o : List ℕ) {c : Cpu} {t 
   unfolding step_def
   step_bad e q = q ∙ rw (← bad_as s u p h o z y, e)
 
-  pub step_good : {n : Next} {b : State} {r k q g i : List ℕ} → t ≡ false → after n r k q g i ≡ advance x d (machine c s.regs s.key u p h o) → b ≡ state_of n.cpu r k
-      → finished (record { answer = n.answer; state = b; used = n.used; counts = n.counts }) q g i ≡ step_def x d (machine_of s u p h o)
-  unfolding step_def cpu_of state_of
-  step_good e q w = rw w (q ∙ rw (z, ← bad_as s u p h o z y, e))
+  pub step_good : {l : Left} → t ≡ false → l ≡ advance x d (machine c s.regs s.key u p h o) → l ≡ step_def x d (machine_of s u p h o)
+  unfolding step_def cpu_of
+  step_good e q = q ∙ rw (z, ← bad_as s u p h o z y, e)

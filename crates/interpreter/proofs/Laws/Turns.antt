@@ -1,5 +1,5 @@
 -- Many steps in a row: from the parts of a quick step to the definition's, and how the steps add up.
-use Rattle.std.proofs.Common.{◌≡◌, ℕ, zero, suc, ◌+◌, ◌-◌, ◌*◌, ◌/◌, ◌%◌, ◌^◌, ◌<◌, true, false, List, sym, refl, ap, ◌∙◌, add-one, arith, eq-eqb, Ok, Option, Some, None}
+use Rattle.std.proofs.Common.{◌≡◌, ℕ, zero, suc, ◌+◌, ◌*◌, ◌/◌, ◌%◌, ◌^◌, ◌<◌, true, false, List, sym, refl, ap, ◌∙◌, add-one, arith, eq-eqb, Ok, Option, Some, None}
 use Rattle.std.specs.Prelude.{Option, Some, Ok}
 use Rattle.pages.specs.Bytes.{big}
 use Rattle.pages.specs.Pages.{byte_at}
@@ -21,13 +21,12 @@ use Rattle.interpreter.specs.Kernel.{does, kernel_def, touching, touch_def}
 use Rattle.interpreter.specs.declared.step.Answer.TheVariants.{Stepped}
 use Rattle.interpreter.specs.Machine.{machine, reg, counted, changed, bad}
 use Rattle.interpreter.specs.Step.{left, putting, advance}
-use Rattle.interpreter.specs.Runs.{Ran, more, run_def}
 use Rattle.interpreter.specs.Plan.{eight_at, storing, ins_of, touch_of}
 use Rattle.interpreter.specs.Parts.{Agrees, Shows, Both, key_of, Quiet, Reaches, eight_of, covered, core_of, core_after, later, cpu_with, Completed, Turned, stays, makes, Gone}
 use Rattle.interpreter.proofs.Laws.Tests.{no_true}
 use Rattle.interpreter.proofs.Laws.Frequent.{agrees_as}
-use Rattle.interpreter.proofs.Laws.Plans.{exec_done, change_done, step_done}
-use Rattle.interpreter.proofs.Laws.Runs.{more_more, turn_good, run_holds, run_turn}
+use Rattle.interpreter.proofs.Laws.Plans.{change_stored, exec_done, step_done}
+use Rattle.interpreter.proofs.Laws.Runs.{turn_good, run_holds, run_turn}
 
 -- at an aligned pc a quick change is the kernel's
 aligned_kernel : (i : Ins) {f : Option Change} {e : Change} → i.pc % 4 ≡ 0 → Agrees f (does (decode i.word) i) → f ≡ Some e → kernel_def i ≡ Ok e
@@ -96,7 +95,7 @@ module _ (c : Cpu) (k : Core) (w u : ℕ) (r p : List ℕ) {t : Option ℕ} {y :
   turned z1 z2 z3 s {q} g =
       makes g.made (rw g.window (g.kept b.near s.0, g.kept b.far s.1)) g.kept
       (λ n a h o x d. exec_done (counted (cpu_with c k n)) r a u p h o x d w z1 z2 refl refl z3
-      (change_done (counted (cpu_with c k n)) r a u p h o x d t e g.pages refl g.regs (rw (g.core, add-one)) refl))
+      (change_stored (counted (cpu_with c k n)) r a u p h o x d t e g.pages g.regs (rw (g.core, add-one))))
 
 -- the same with what was stored
 pub completed : {r p : List ℕ} {u : ℕ} {b : Pair} {t : Option ℕ} {e : Change} {q : Turn} {r' p' : List ℕ} → ((s : List ℕ) (n : ℕ) → Completed r s n b None e q r' s) → stored (Ok u) p' ≡ putting p u (storing t e)
@@ -181,10 +180,3 @@ module _ (c : Cpu) (k : Core) {b : Cpu} {n : ℕ} (e : b ≡ cpu_with c k 0) whe
       → went (record { pc = b.pc; next = b.next; hi = b.hi; lo = b.lo; heap = b.heap; step = m; offset = b.offset; hint = b.hint; exited = b.exited; code = b.code; rules = b.rules }) n ≡ went (cpu_with c k n) n
   unfolding cpu_with
   after_some h g = rw (e, g, later_is c.step n h)
-
--- many steps within a run
-pub run_gone : (x d : List ℕ) (budget count : ℕ) {t : Ran} {c : Cpu} {u : ℕ} {r p y h o : List ℕ} {e : Went} {r' p' : List ℕ} → t ≡ more count (run_def x d (budget - count) (machine c r y u p h o))
-    → Gone c u r p (budget - count) e r' p' y h o x d → t ≡ more (count + e.count) (run_def x d (budget - (count + e.count)) (machine e.cpu r' y u p' h o))
-run_gone x d budget count {u = u} {y = y} {h = h} {o = o} {e = e} {r' = r'} {p' = p'} i g =
-    i ∙ ap (more count) g.rest ∙ more_more count e.count (run_def x d (budget - count - e.count) (machine e.cpu r' y u p' h o))
-    ∙ ap (λ (n : ℕ). more (count + e.count) (run_def x d n (machine e.cpu r' y u p' h o))) (omega arith)
