@@ -14,7 +14,7 @@ use Rattle.pages.specs.declared.memory.StoreError.{StoreError}
 use Rattle.interpreter.specs.Words.{plus}
 use Rattle.interpreter.specs.declared.effect.Change.{Change}
 use Rattle.interpreter.specs.declared.effect.Refusal.{Refusal}
-use Rattle.interpreter.specs.declared.effect.Refusal.TheVariants.{PcMisaligned, MemoryFull, NoRoom, NoInput, InputOffset}
+use Rattle.interpreter.specs.declared.effect.Refusal.TheVariants.{PcMisaligned, NoRoom, NoInput, InputOffset}
 use Rattle.interpreter.specs.declared.effect.Ins.{Ins}
 use Rattle.interpreter.specs.Effects.{Effect}
 use Rattle.interpreter.specs.declared.effect.Stop.TheVariants.{Refused as RefusedBy, Call as CallBy}

@@ -52,6 +52,9 @@ pub change_made : (c : Cpu) (r k : List ℕ) (t : Option ℕ) (x : ℕ) (e : Cha
 unfolding change_shown
 change_made c r k t x e p q s = rw (p, q, s)
 
+pub shown_as : (r k : List ℕ) {s t : Result Shown Unshown} → s ≡ t → shown s r k ≡ shown t r k
+shown_as r k e = ap (λ (s : Result Shown Unshown). shown s r k) e
+
 -- a call that the step makes too, on a machine with no bytes
 module _ (c : Cpu) (r k : List ℕ) (x : ℕ) where
   wide_made : {g : Call} → g ≡ call_in c r → call_wide g ≡ true → shown (Err Wide) r k ≡ call_shown c r k x

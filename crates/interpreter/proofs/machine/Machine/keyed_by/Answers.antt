@@ -1,4 +1,3 @@
-use Rattle.std.proofs.Common.{◌∙◌}
 use Rattle.interpreter.proofs.Laws.Plans.{key_shifted}
 use Rattle.interpreter.proofs.machine.Machine.keyed_by.Goals as goal
 

@@ -1,4 +1,3 @@
-use Rattle.std.proofs.Common.{arith, refl}
 use Rattle.interpreter.proofs.Laws.Plans.{offset_past, offset_in}
 use Rattle.interpreter.proofs.machine.Machine.read_part.Goals as goal
 
