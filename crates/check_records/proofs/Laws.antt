@@ -8,7 +8,7 @@ use Rattle.std.specs.declared.option.Option.{Option}
 use Rattle.std.specs.Io.KnownBytes.{Appends}
 use Rattle.std.proofs.KnownBytes.{Appends-nil, Appends-trans}
 use Rattle.checker.specs.Check.{check_def}
-use Rattle.check_records.specs.Lines.{line, record_at, position_at, line_at, lines_to, count_of, lines_of, after, whole_records}
+use Rattle.check_records.specs.Lines.{line, record_at, position_at, lines_to, count_of, lines_of, after, whole_records}
 
 -- ---- chunk by chunk
 

@@ -1,4 +1,4 @@
-use Rattle.std.proofs.Common.{◌≡◌, ◌*◌, ◌%◌, List, ℕ, length}
+use Rattle.std.proofs.Common.{◌≡◌, ◌%◌, List, ℕ, length}
 use Rattle.std.specs.Io.KnownBytes.{Appends, Consumes}
 use Rattle.check_records.specs.Lines.{lines_of, after}
 use Rattle.check_records.proofs.stream.judge.Given as goal
