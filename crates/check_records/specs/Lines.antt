@@ -1,28 +1,18 @@
 -- What is printed of step records: a line for each record of 752 bytes, and one for a short remainder.
-use Rattle.std.specs.Prelude.{ℕ, zero, suc, ◌+◌, ◌*◌, ◌/◌, ◌%◌, ◌^◌, cond, List, [], ◌∷◌, ◌++◌, length, take, drop, nat_le, nat_lt, Ok, Err}
-use Rattle.std.proofs.lemmas.List.Edits.{sets}
+use Rattle.std.specs.Prelude.{ℕ, zero, suc, ◌+◌, ◌*◌, ◌/◌, ◌%◌, ◌^◌, List, [], ◌++◌, length, take, drop, Ok, Err, ◌-◌, codes, decimal}
 use Rattle.checker.specs.Verdicts.{Verdict, fault_number}
 use Rattle.checker.specs.Check.{check_def}
 
 -- ---- a line, in ASCII
 
--- a number of at most k digits in decimal
-unfoldable pub decimal_in : ℕ → ℕ → List ℕ
-decimal_in zero n = []
-decimal_in (suc k) n = cond (nat_lt n 10) ((48 + n) ∷ []) (decimal_in k (n / 10) ++ (48 + n % 10) ∷ [])
-
--- a number below 2 ^ 64 has at most 20 digits
-unfoldable pub decimal : ℕ → List ℕ
-decimal n = decimal_in 20 n
-
 -- `accepted`, or `refused ` and the number
 unfoldable pub said : Verdict → List ℕ
-said (Ok u) = 97 ∷ 99 ∷ 99 ∷ 101 ∷ 112 ∷ 116 ∷ 101 ∷ 100 ∷ []
-said (Err f) = 114 ∷ 101 ∷ 102 ∷ 117 ∷ 115 ∷ 101 ∷ 100 ∷ 32 ∷ decimal (fault_number f)
+said (Ok u) = codes "accepted"
+said (Err f) = codes "refused " ++ decimal (fault_number f)
 
 -- the position, a space, the verdict and a line end
 unfoldable pub line : ℕ → Verdict → List ℕ
-line n v = decimal n ++ 32 ∷ said v ++ 10 ∷ []
+line n v = decimal n ++ codes " " ++ said v ++ codes "\n"
 
 -- ---- the lines of bytes, the first of which has the position `from`; positions wrap at 2 ^ 64
 
@@ -53,16 +43,7 @@ lines_of from b = lines_to (count_of b) from b
 abbrev pub after : ℕ → List ℕ → ℕ
 after from b = position_at from (length b / 752)
 
--- ---- what the code leaves
+-- ---- what is judged after a failed read: whole records only
 
--- how many bytes the lines have, and the output buffer
-pub record Printed : Type 0 where
-  pub count : ℕ
-  pub out : List ℕ
-
-abbrev pub printed : ℕ → List ℕ → Printed
-printed n o = record { count = n; out = o }
-
--- the lines at the front of the buffer, where it has 32 bytes for each; otherwise it stays
-unfoldable pub printed_def : ℕ → List ℕ → List ℕ → Printed
-printed_def from b o = cond (nat_le (32 * count_of b) (length o)) (printed (length (lines_of from b)) (sets o 0 (lines_of from b))) (printed 0 o)
+abbrev pub whole_records : List ℕ → List ℕ
+whole_records b = take (length b - length b % 752) b

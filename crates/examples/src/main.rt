@@ -1,62 +1,49 @@
-// Document 01's examples 1 to 12 through the kernel, under rules 0 and rules 1, and its sentence on sign_extend. The file
-// stdout has document 01's numbers.
+//! Document 01's examples 1 to 12 through the kernel, under rules 0 and rules 1, and its sentence on sign_extend. The file
+//! stdout has document 01's numbers.
 #![tactic(auto)]
 
 use interpreter::effect::{Change, Ins, Stop};
 use interpreter::{bits, cpu};
 use std::io;
 
-// Document 01's M.
+/// Document 01's M.
 const M: u64 = 0x0102_0304_0506_0708;
 
-const ONES: u64 = 0xffff_ffff_ffff_ffff;
+const ONES: u64 = u64::MAX;
 
-// Which part of a change an example speaks of.
-#[derive(Clone, Copy)]
-enum Part {
-    Value,
-    Hi,
-    Lo,
-    Stored,
-}
-
-fn value_of(c: Change, p: Part) -> u64 {
-    match p {
-        Part::Value => c.value,
-        Part::Hi => c.hi,
-        Part::Lo => c.lo,
-        Part::Stored => c.store.unwrap_or(0),
-    }
-}
-
-fn show(rt: &impl Print, i: Ins, p: Part) -> io::Result<()> {
+/// Prints the part of an instruction's change that `part` picks, or that there is none.
+fn show<F: Fn(Change) -> u64>(rt: &impl Print, i: Ins, part: &F) -> io::Result<()>
+    requires { F.IsAlwaysCallable part.now }
+{
     match cpu::kernel(i) {
-        Err(Stop::Refused(r)) => {
-            let number = u8::from(r);
+        Ok(change) => {
+            let value = part(change);
+            print!(rt; "0x{value:016x}")
+        }
+        Err(Stop::Refused(refusal)) => {
+            let number = u8::from(refusal);
             print!(rt; "refused {number}")
         }
         Err(Stop::Call) => print!(rt; "call"),
-        Ok(c) => {
-            let value = value_of(c, p);
-            print!(rt; "0x{value:016x}")
-        }
     }
 }
 
-// An instruction word with what it reads, under both rules.
-fn example(
+/// An instruction word with what it reads, under both rules.
+fn example<F: Fn(Change) -> u64 + Drop>(
     rt: &impl Print,
     name: &str,
     word: u64,
-    first: u64,
+    rs: u64,
     second: u64,
     mem: u64,
-    p: Part,
-) -> io::Result<()> {
-    let mut i = Ins {
-        rules: 0,
+    part: F,
+) -> io::Result<()>
+    requires { F.IsAlwaysCallable part }
+{
+    let under = |rules| Ins {
+        rules,
         word,
-        rs: first,
+        rs,
         rt: second,
         pc: 0,
         next: 4,
@@ -65,19 +52,34 @@ fn example(
         mem,
     };
     print!(rt; "{name}: ")?;
-    show(rt, i, p)?;
+    show(rt, under(0), &part)?;
     print!(rt; " / ")?;
-    i.rules = 1;
-    show(rt, i, p)?;
+    show(rt, under(1), &part)?;
     println!(rt; "")
 }
 
-// Words: rs is register 1, rt register 2, rd register 3.
+/// Words: rs is register 1, rt register 2, rd register 3.
 fn registers(rt: &impl Print) -> io::Result<()> {
     // SLL 3, 2, 31
-    example(rt, "1. SLL 2 by 31", 0x0002_1fc0, 0, 2, 0, Part::Value)?;
+    example(
+        rt,
+        "1. SLL 2 by 31",
+        0x0002_1fc0,
+        0,
+        2,
+        0,
+        |change| change.value,
+    )?;
     // SRAV 3, 2, 1
-    example(rt, "2. SRAV 1 by 32", 0x0022_1807, 32, 1, 0, Part::Value)?;
+    example(
+        rt,
+        "2. SRAV 1 by 32",
+        0x0022_1807,
+        32,
+        1,
+        0,
+        |change| change.value,
+    )?;
     // SUBU 3, 1, 2
     example(
         rt,
@@ -86,18 +88,50 @@ fn registers(rt: &impl Print) -> io::Result<()> {
         0xffff_ffff_8000_0000,
         1,
         0,
-        Part::Value,
+        |change| change.value,
     )?;
     // SPECIAL2 functions 0x20 and 0x21 on 1
-    example(rt, "8. funct 0x20 on 0", 0x7022_1820, 0, 0, 0, Part::Value)?;
-    example(rt, "8. funct 0x21 on 0", 0x7022_1821, 0, 0, 0, Part::Value)
+    example(
+        rt,
+        "8. funct 0x20 on 0",
+        0x7022_1820,
+        0,
+        0,
+        0,
+        |change| change.value,
+    )?;
+    example(
+        rt,
+        "8. funct 0x21 on 0",
+        0x7022_1821,
+        0,
+        0,
+        0,
+        |change| change.value,
+    )
 }
 
 fn hi_and_lo(rt: &impl Print) -> io::Result<()> {
     // DIVU 1, 2
-    example(rt, "4. DIVU, lo", 0x0022_001b, 0xffff_ffff, 1, 0, Part::Lo)?;
+    example(
+        rt,
+        "4. DIVU, lo",
+        0x0022_001b,
+        0xffff_ffff,
+        1,
+        0,
+        |change| change.lo,
+    )?;
     // DMULT 1, 2
-    example(rt, "5. DMULT, hi", 0x0022_001c, ONES, 1, 0, Part::Hi)?;
+    example(
+        rt,
+        "5. DMULT, hi",
+        0x0022_001c,
+        ONES,
+        1,
+        0,
+        |change| change.hi,
+    )?;
     // DIV 1, 2
     example(
         rt,
@@ -106,7 +140,7 @@ fn hi_and_lo(rt: &impl Print) -> io::Result<()> {
         0xffff_ffff_8000_0000,
         ONES,
         0,
-        Part::Lo,
+        |change| change.lo,
     )?;
     example(
         rt,
@@ -115,7 +149,7 @@ fn hi_and_lo(rt: &impl Print) -> io::Result<()> {
         1,
         0x1_0000_0000,
         0,
-        Part::Lo,
+        |change| change.lo,
     )
 }
 
@@ -128,7 +162,7 @@ fn memory(rt: &impl Print) -> io::Result<()> {
         0,
         0xf000_0000_0000_0000,
         M,
-        Part::Value,
+        |change| change.value,
     )?;
     // LWL 2, 1(1)
     example(
@@ -138,10 +172,18 @@ fn memory(rt: &impl Print) -> io::Result<()> {
         0,
         0xaabb_ccdd,
         M,
-        Part::Value,
+        |change| change.value,
     )?;
     // LWR 2, 5(1)
-    example(rt, "11. LWR at 5", 0x9822_0005, 0, 0, M, Part::Value)?;
+    example(
+        rt,
+        "11. LWR at 5",
+        0x9822_0005,
+        0,
+        0,
+        M,
+        |change| change.value,
+    )?;
     // SWR 2, 5(1)
     example(
         rt,
@@ -150,25 +192,26 @@ fn memory(rt: &impl Print) -> io::Result<()> {
         0,
         0x1122_3344,
         0,
-        Part::Stored,
+        |change| change.store.unwrap_or(0),
     )
 }
 
-fn sign(rt: &impl Print, x: u64, index: u64) -> io::Result<()> {
-    let extended = bits::sign_extend(x, index);
-    println!(rt; "sign_extend 0x{x:016x} from {index}: 0x{extended:016x}")
-}
-
-// Counts are modulo 64, a multiple of 64 gives 0, and every bit from index - 1 up is a sign.
+/// Counts are modulo 64, a multiple of 64 gives 0, and every bit from index - 1 up is a sign.
 fn signs(rt: &impl Print) -> io::Result<()> {
-    sign(rt, M, 0)?;
-    sign(rt, M, 64)?;
-    sign(rt, 0x7f, 8)?;
-    sign(rt, 0x80, 8)?;
-    sign(rt, 0x100, 8)?;
-    sign(rt, 0x80, 72)?;
-    sign(rt, 1, 1)?;
-    sign(rt, 0x8000_0000_0000_0000, 63)
+    for (x, index) in [
+        (M, 0),
+        (M, 64),
+        (0x7f, 8),
+        (0x80, 8),
+        (0x100, 8),
+        (0x80, 72),
+        (1, 1),
+        (0x8000_0000_0000_0000, 63),
+    ] {
+        let extended = bits::sign_extend(x, index);
+        println!(rt; "sign_extend 0x{x:016x} from {index}: 0x{extended:016x}")?;
+    }
+    Ok(())
 }
 
 fn main(rt: HostRuntime) -> io::Result<()> {

@@ -1,18 +1,25 @@
-// A machine with a program at 0x1000.
+//! A machine with a program at 0x1000.
+use crate::answer::Said;
+use interpreter::run;
 use interpreter::state::State;
 use pages::memory;
+use std::io;
 
-#[derive(Clone, Copy)]
+/// A machine with two page records, of which those that are needed are used.
+#[derive(Drop)]
 pub struct Machine {
+    pub state: State,
+    pub pages: [u8; 8208],
     pub used: usize,
+    pub output: [u8; 64],
 }
 
 impl Machine {
     pub const START: u64 = 0x1000;
 
-    // All zero, before the program's first instruction.
-    pub fn state(rules: u8) -> State {
-        State {
+    /// All zero, before the first instruction of a program that is alone in memory.
+    pub fn new(rules: u8, program: &[u32]) -> Machine {
+        let state = State {
             regs: [0; 32],
             pc: Machine::START,
             next: Machine::START + 4,
@@ -26,28 +33,56 @@ impl Machine {
             exited: false,
             code: 0,
             rules,
+        };
+        let mut machine = Machine {
+            state,
+            pages: [0; 8208],
+            used: 0,
+            output: [0; 64],
+        };
+        let mut address = Machine::START;
+        for word in program {
+            machine.put(address, *word);
+            address = address.wrapping_add(4);
+        }
+        machine
+    }
+
+    /// The same with "geodesy\n" at 0x2000.
+    pub fn greeting(rules: u8, program: &[u32]) -> Machine {
+        let mut machine = Machine::new(rules, program);
+        machine.put(0x2000, 0x6765_6f64);
+        machine.put(0x2004, 0x6573_790a);
+        machine
+    }
+
+    /// Stores a word. There is room for each that is stored here.
+    fn put(&mut self, address: u64, word: u32) {
+        if let Ok(used) = memory::set_word(&mut self.pages, self.used, address, word) {
+            self.used = used;
         }
     }
 
-    // Stores a word, and answers how many page records are used then.
-    pub fn put(pages: &mut [u8], used: usize, address: u64, word: u32) -> usize {
-        memory::set_word(pages, used, address, word).unwrap_or(used)
-    }
-
-    // "geodesy\n" at 0x2000.
-    pub fn greeting(pages: &mut [u8], used: usize) -> usize {
-        let used = Machine::put(pages, used, 0x2000, 0x6765_6f64);
-        Machine::put(pages, used, 0x2004, 0x6573_790a)
-    }
-
-    // The program in an empty memory.
-    pub fn load(pages: &mut [u8], words: &[u32]) -> usize {
-        let mut used = 0;
-        let mut at = Machine::START;
-        for k in 0..words.len() {
-            used = Machine::put(pages, used, at, words[k]);
-            at = std::num::wrapping_add_u64(at, 4);
-        }
-        used
+    /// Runs on with a budget, and says the answer, the count, and then pc, step and register 3.
+    pub fn go(&mut self, rt: &impl Print, budget: u64) -> io::Result<()> {
+        let mut hint = [0u8; 16];
+        let ended = run::run(
+            self.state,
+            &mut self.pages,
+            self.used,
+            &mut hint,
+            &mut self.output,
+            &[],
+            &[],
+            budget,
+        );
+        self.state = ended.state;
+        self.used = ended.used;
+        let answer = Said(ended.answer);
+        let count = ended.count;
+        let pc = self.state.pc;
+        let step = self.state.step;
+        let sum = self.state.regs[3];
+        println!(rt; "{answer}, {count} steps; pc 0x{pc:04x}, step {step}, register 3 is {sum}")
     }
 }

@@ -1,304 +1,194 @@
-// A vector's whole machine: laid out, stepped, and every byte of it held against what the judge saw.
-ghost use Rattle.std.specs.Prelude.{◌≤◌};
-
-use crate::vector::Front;
-use crate::{bytes, second, vector};
+//! A vector's whole machine: laid out, stepped, and every byte of it held against what the judge saw.
+use crate::vector::{Front, Said};
+use crate::{second, vector};
+use interpreter::effect::Refusal;
 use interpreter::state::State;
-use interpreter::step::{Answer, Finished};
+use interpreter::step::Answer;
 use interpreter::{layout, run, step};
+use std::io;
+use std::io::Read;
 
-// The longest buffers of a list.
+fn number(refusal: Refusal) -> u64 {
+    u64::from(u8::from(refusal))
+}
+
+impl From<Answer> for Said {
+    fn from(answer: Answer) -> Said {
+        match answer {
+            Answer::Stepped => Said::Stepped,
+            Answer::Wrote(stream, count) => Said::Wrote(stream, count),
+            Answer::Hint(count) => Said::Hint(count),
+            Answer::Exited(code) => Said::Exited(u64::from(code)),
+            Answer::Refused(refusal) => Said::Refused(number(refusal)),
+        }
+    }
+}
+
+/// The longest buffers of a list, and the state's bytes.
 #[derive(Clone, Copy)]
-struct Longest {
-    size: usize,
+struct Buffers {
+    state: [u8; 360],
+    pages: [u8; 20519],
+    hint: [u8; 1024],
+    output: [u8; 8191],
+    index: [u8; 480],
+    data: [u8; 1024],
 }
 
-impl Longest {
-    const PAGES: usize = 20519;
-
-    const HINT: usize = 1024;
-
-    const OUTPUT: usize = 8191;
-
-    const INDEX: usize = 480;
-
-    const DATA: usize = 1024;
-}
-
-fn fits(f: Front) -> bool {
-    if Longest::PAGES < f.pages {
-        return false;
+impl Buffers {
+    /// What was before: six patch lists over the fill, and the state's over zeros.
+    fn before(input: &mut impl Read, fill: u8) -> io::Result<Buffers> {
+        let mut buffers = Buffers {
+            state: [0; 360],
+            pages: [fill; 20519],
+            hint: [fill; 1024],
+            output: [fill; 8191],
+            index: [fill; 480],
+            data: [fill; 1024],
+        };
+        buffers.change(input)?;
+        vector::patch(input, &mut buffers.index)?;
+        vector::patch(input, &mut buffers.data)?;
+        Ok(buffers)
     }
-    if Longest::HINT < f.hint {
-        return false;
+
+    /// The four patch lists of what a step may change.
+    fn change(&mut self, input: &mut impl Read) -> io::Result<()> {
+        vector::patch(input, &mut self.state)?;
+        vector::patch(input, &mut self.pages)?;
+        vector::patch(input, &mut self.hint)?;
+        vector::patch(input, &mut self.output)
     }
-    if Longest::OUTPUT < f.output {
-        return false;
+
+    /// Whether every byte is the same.
+    fn agrees(&self, other: &Buffers) -> bool {
+        self.state == other.state
+            && self.pages == other.pages
+            && self.hint == other.hint
+            && self.output == other.output
     }
-    if Longest::INDEX < f.index {
-        return false;
-    }
-    f.data <= Longest::DATA
 }
 
-// Lays the six lists of what was before out, and answers the place behind them.
-fn lay_before(
-    v: &[u8],
-    state: &mut [u8],
-    pages: &mut [u8],
-    hint: &mut [u8],
-    output: &mut [u8],
-    index: &mut [u8],
-    data: &mut [u8],
-) -> usize {
-    let at = vector::patch(v, Front::SIZE, state);
-    let at = vector::patch(v, at, pages);
-    let at = vector::patch(v, at, hint);
-    let at = vector::patch(v, at, output);
-    let at = vector::patch(v, at, index);
-    vector::patch(v, at, data)
+/// A machine before a step or after it, with so many bytes of each buffer lent as its vector's front says.
+#[derive(Clone, Copy)]
+pub struct Machine {
+    front: Front,
+    state: State,
+    used: usize,
+    answer: Said,
+    buffers: Buffers,
 }
 
-// Lays the four lists of what is after over what was before, and answers the place behind them.
-fn lay_after(
-    v: &[u8],
-    at: usize,
-    state: &mut [u8],
-    pages: &mut [u8],
-    hint: &mut [u8],
-    output: &mut [u8],
-) -> usize {
-    let at = vector::patch(v, at, state);
-    let at = vector::patch(v, at, pages);
-    let at = vector::patch(v, at, hint);
-    vector::patch(v, at, output)
+impl Machine {
+    /// Makes a step. `None` where more is lent than the buffers have.
+    pub fn step(&mut self) -> Option<()> {
+        let finished = step::step(
+            self.state,
+            self.buffers.pages.get_mut(..self.front.pages)?,
+            self.used,
+            self.buffers.hint.get_mut(..self.front.hint)?,
+            self.buffers.output.get_mut(..self.front.output)?,
+            self.buffers.index.get(..self.front.index)?,
+            self.buffers.data.get(..self.front.data)?,
+        );
+        self.state = finished.state;
+        self.used = finished.used;
+        self.answer = Said::from(finished.answer);
+        Some(())
+    }
+
+    /// Makes a run, which has a quicker way for many instructions.
+    pub fn run(&mut self, budget: u64) -> Option<()> {
+        let stopped = run::run(
+            self.state,
+            self.buffers.pages.get_mut(..self.front.pages)?,
+            self.used,
+            self.buffers.hint.get_mut(..self.front.hint)?,
+            self.buffers.output.get_mut(..self.front.output)?,
+            self.buffers.index.get(..self.front.index)?,
+            self.buffers.data.get(..self.front.data)?,
+            budget,
+        );
+        self.state = stopped.state;
+        self.used = stopped.used;
+        self.answer = Said::from(stopped.answer);
+        Some(())
+    }
+
+    /// Makes the step as the second of a run of two. `None` where it cannot be that.
+    pub fn second(&mut self) -> Option<()> {
+        // Refusal 1 leaves the step before it too, so that it is no second step.
+        if self.front.answer == Said::Refused(1) {
+            return None;
+        }
+        let state = self.state;
+        let pages = self.buffers.pages.get_mut(..self.front.pages)?;
+        let before = second::lay(&state, pages, self.used)?;
+        self.state = second::state(&state);
+        self.run(2)?;
+        second::restore(before, &mut self.buffers.pages);
+        Some(())
+    }
 }
 
-// A count that lies in a buffer.
-fn within(n: usize, size: usize) -> usize
-    ensures { result ≤ size }
+/// Replays a vector in one way, and answers whether all is as the judge says. `None` where the vector cannot be read, or it
+/// doesn't go that way.
+fn verdict<F: Fn(&mut Machine) -> Option<()>>(vector: &[u8], way: &F) -> io::Result<Option<bool>>
+    requires { F.IsAlwaysCallable way.now }
 {
-    if size < n {
-        return size;
+    let mut input = vector;
+    let front = Front::read(&mut input)?;
+    let buffers = Buffers::before(&mut input, front.fill)?;
+    let mut after = buffers;
+    after.change(&mut input)?;
+    let Some(state) = layout::decode(&buffers.state) else {
+        return Ok(None);
+    };
+    let mut machine = Machine {
+        front,
+        state,
+        used: front.used,
+        answer: Said::Stepped,
+        buffers,
+    };
+    if way(&mut machine).is_none() {
+        return Ok(None);
     }
-    n
+    machine.buffers.state = machine.state.encode();
+    Ok(Some(
+        machine.answer == front.answer
+            && machine.used == front.used_after
+            && machine.buffers.agrees(&after),
+    ))
 }
 
-// How a vector is replayed: by `step`, by a run of one, which has a quicker way for many instructions, and as the second step of
-// a run.
-#[derive(Clone, Copy)]
-pub enum Way {
-    Step,
-    Run,
-    Second,
-}
-
-// What a vector's step left, and whether it was the second of a run.
-#[derive(Clone, Copy)]
-struct Made {
-    end: Finished,
-    second: bool,
-}
-
-// Whether a vector went as the judge says, and as the second step of a run too.
+/// How a vector's step went, beside what the judge says.
 #[derive(Clone, Copy)]
 pub enum Replayed {
     Differs,
-    Agrees,
-    Twice,
+    /// As the judge says, and whether as the second step of a run too.
+    Agrees { answer: Said, twice: bool },
 }
 
-fn run_of(
-    s: State,
-    pages: &mut [u8],
-    used: usize,
-    hint: &mut [u8],
-    output: &mut [u8],
-    index: &[u8],
-    data: &[u8],
-    budget: u64,
-) -> Finished {
-    let e = run::run(s, pages, used, hint, output, index, data, budget);
-    let answer = e.answer;
-    let state = e.state;
-    Finished {
-        answer,
-        state,
-        used: e.used,
-        counts: e.count == budget,
+/// Replays a vector by `step`, by a run of one, and as the second step of a run.
+fn replay_each(vector: &[u8]) -> io::Result<Replayed> {
+    let answer = Front::read(&mut &*vector)?.answer;
+    if verdict(vector, &|machine: &mut Machine| machine.step())? != Some(true) {
+        return Ok(Replayed::Differs);
+    }
+    if verdict(vector, &|machine: &mut Machine| machine.run(1))? != Some(true) {
+        return Ok(Replayed::Differs);
+    }
+    match verdict(vector, &|machine: &mut Machine| machine.second())? {
+        Some(false) => Ok(Replayed::Differs),
+        second => Ok(Replayed::Agrees {
+            answer,
+            twice: second.is_some(),
+        }),
     }
 }
 
-// Where a step cannot be the second of a run, it is made by itself.
-fn second_of(
-    s: State,
-    pages: &mut [u8],
-    used: usize,
-    hint: &mut [u8],
-    output: &mut [u8],
-    index: &[u8],
-    data: &[u8],
-) -> Made {
-    let b = second::lay(s, pages, used);
-    if b.at == 0 {
-        let end = step::step(s, pages, used, hint, output, index, data);
-        return Made { end, second: false };
-    }
-    let t = second::state(s);
-    let end = run_of(t, pages, used, hint, output, index, data, 2);
-    second::restore(b, pages);
-    Made { end, second: true }
-}
-
-fn make(
-    s: State,
-    pages: &mut [u8],
-    used: usize,
-    hint: &mut [u8],
-    output: &mut [u8],
-    index: &[u8],
-    data: &[u8],
-    way: Way,
-) -> Made {
-    if let Way::Second = way {
-        return second_of(s, pages, used, hint, output, index, data);
-    }
-    if let Way::Run = way {
-        let end = run_of(s, pages, used, hint, output, index, data, 1);
-        return Made { end, second: false };
-    }
-    let end = step::step(s, pages, used, hint, output, index, data);
-    Made { end, second: false }
-}
-
-// The same on as many bytes of each buffer as the vector lends.
-fn stepped(
-    s: State,
-    f: Front,
-    pages: &mut [u8],
-    hint: &mut [u8],
-    output: &mut [u8],
-    index: &[u8],
-    data: &[u8],
-    way: Way,
-) -> Made {
-    let p = within(f.pages, pages.len());
-    let h = within(f.hint, hint.len());
-    let o = within(f.output, output.len());
-    let i = within(f.index, index.len());
-    let d = within(f.data, data.len());
-    make(
-        s,
-        &mut pages[..p],
-        f.used,
-        &mut hint[..h],
-        &mut output[..o],
-        &index[..i],
-        &data[..d],
-        way,
-    )
-}
-
-fn said(f: Front, kind: u64, first: u64, second: u64) -> bool {
-    if f.kind != kind {
-        return false;
-    }
-    if f.first != first {
-        return false;
-    }
-    f.second == second
-}
-
-// Whether the answer is the judge's, with its values.
-fn same_answer(a: Answer, f: Front) -> bool {
-    match a {
-        Answer::Stepped => said(f, Front::STEPPED, 0, 0),
-        Answer::Wrote(stream, count) => said(f, Front::WROTE, stream, count),
-        Answer::Hint(count) => said(f, Front::HINT, count, 0),
-        Answer::Exited(code) => said(f, Front::EXITED, code as u64, 0),
-        Answer::Refused(r) => said(f, Front::REFUSED, u8::from(r) as u64, 0),
-    }
-}
-
-// The answer, the used records and the state's bytes.
-fn same_finish(got: Finished, f: Front, after: &[u8]) -> bool {
-    let answer = got.answer;
-    if same_answer(answer, f) {
-        if got.used == f.used_after {
-            let s = got.state;
-            let bytes = s.encode();
-            return bytes::same(&bytes, after);
-        }
-    }
-    false
-}
-
-fn same_lent(pages: &[u8], hint: &[u8], output: &[u8], p: &[u8], h: &[u8], o: &[u8]) -> bool {
-    if bytes::same(pages, p) {
-        if bytes::same(hint, h) {
-            return bytes::same(output, o);
-        }
-    }
-    false
-}
-
-// One vector, replayed in one way.
-fn laid(v: &[u8], f: Front, way: Way) -> Replayed {
-    let fill = f.fill;
-    let mut state = [0u8; 360];
-    let mut pages = [fill; 20519];
-    let mut hint = [fill; 1024];
-    let mut output = [fill; 8191];
-    let mut index = [fill; 480];
-    let mut data = [fill; 1024];
-    let at = lay_before(
-        v,
-        &mut state,
-        &mut pages,
-        &mut hint,
-        &mut output,
-        &mut index,
-        &mut data,
-    );
-    let Some(s) = layout::decode(&state) else {
-        return Replayed::Differs;
-    };
-    let mut p = pages;
-    let mut h = hint;
-    let mut o = output;
-    lay_after(v, at, &mut state, &mut p, &mut h, &mut o);
-    let made = stepped(s, f, &mut pages, &mut hint, &mut output, &index, &data, way);
-    let end = made.end;
-    if same_lent(&pages, &hint, &output, &p, &h, &o) {
-        if same_finish(end, f, &state) {
-            if made.second {
-                return Replayed::Twice;
-            }
-            return Replayed::Agrees;
-        }
-    }
-    Replayed::Differs
-}
-
-// Refusal 1 leaves the step before it too, so that it is no second step.
-fn seconded(v: &[u8], f: Front) -> Replayed {
-    if f.kind == Front::REFUSED {
-        if f.first == 1 {
-            return Replayed::Agrees;
-        }
-    }
-    laid(v, f, Way::Second)
-}
-
-pub fn replay(v: &[u8], f: Front) -> Replayed {
-    if !fits(f) {
-        return Replayed::Differs;
-    }
-    if let Replayed::Differs = laid(v, f, Way::Step) {
-        return Replayed::Differs;
-    }
-    if let Replayed::Differs = laid(v, f, Way::Run) {
-        return Replayed::Differs;
-    }
-    seconded(v, f)
+/// A vector that cannot be read differs.
+pub fn replay(vector: &[u8]) -> Replayed {
+    replay_each(vector).unwrap_or(Replayed::Differs)
 }

@@ -1,16 +1,40 @@
-// One vector of a list, behind its length (compare/README.md has the form; its offsets count the length's four bytes).
-use crate::bytes;
+//! One vector of a list, behind its length (compare/README.md has the form; its offsets count the length's four bytes).
+use std::io;
+use std::io::Read;
 
-// The numbers at the front of a vector.
+/// What the judge's step answered. A refusal is its number.
+#[derive(Clone, Copy, Debug, PartialEq, Eq)]
+pub enum Said {
+    Stepped,
+    /// The stream and the count.
+    Wrote(u64, u64),
+    Hint(u64),
+    Exited(u64),
+    Refused(u64),
+}
+
+impl Said {
+    /// An answer of a list, whose values are 0 where it has none. `None` where there is no such answer.
+    fn of(kind: u8, first: u64, second: u64) -> Option<Said> {
+        match (kind, first, second) {
+            (0, 0, 0) => Some(Said::Stepped),
+            (1, stream, count) => Some(Said::Wrote(stream, count)),
+            (2, count, 0) => Some(Said::Hint(count)),
+            (3, code, 0) => Some(Said::Exited(code)),
+            (4, number, 0) => Some(Said::Refused(number)),
+            _ => None,
+        }
+    }
+}
+
+/// The numbers at the front of a vector.
 #[derive(Clone, Copy)]
 pub struct Front {
-    pub ordinal: u64,
     pub fill: u8,
-    pub kind: u64,
-    pub first: u64,
-    pub second: u64,
+    pub answer: Said,
     pub used: usize,
     pub used_after: usize,
+    /// How much is lent of each buffer.
     pub pages: usize,
     pub hint: usize,
     pub output: usize,
@@ -18,62 +42,53 @@ pub struct Front {
     pub data: usize,
 }
 
-// A length of at most two bytes.
-fn length(v: &[u8], at: usize) -> usize {
-    (bytes::number(v, at, 2) % 0x1_0000) as usize
+/// The next bytes.
+pub fn array<const N: usize>(input: &mut impl Read) -> io::Result<[u8; N]> {
+    let mut bytes = [0u8; N];
+    input.read_exact(&mut bytes)?;
+    Ok(bytes)
+}
+
+/// The next number of four bytes.
+pub fn word(input: &mut impl Read) -> io::Result<u32> {
+    Ok(u32::from_be_bytes(array(input)?))
+}
+
+/// The next length, of two bytes.
+fn length(input: &mut impl Read) -> io::Result<usize> {
+    Ok(usize::from(u16::from_be_bytes(array(input)?)))
 }
 
 impl Front {
-    // Kinds of answers.
-    pub const STEPPED: u64 = 0;
-
-    pub const WROTE: u64 = 1;
-
-    pub const HINT: u64 = 2;
-
-    pub const EXITED: u64 = 3;
-
-    pub const REFUSED: u64 = 4;
-
-    // The patch lists stand behind it.
-    pub const SIZE: usize = 30;
-
-    pub fn read(v: &[u8]) -> Front {
-        Front {
-            ordinal: bytes::number(v, 0, 4),
-            fill: bytes::byte(v, 5),
-            kind: bytes::number(v, 6, 1),
-            first: bytes::number(v, 8, 4),
-            second: bytes::number(v, 12, 4),
-            used: length(v, 16),
-            used_after: length(v, 18),
-            pages: length(v, 20),
-            hint: length(v, 22),
-            output: length(v, 24),
-            index: length(v, 26),
-            data: length(v, 28),
-        }
+    /// Reads a vector's front. The patch lists stand behind it.
+    pub fn read(input: &mut impl Read) -> io::Result<Front> {
+        let [_, _, _, _, _, fill, kind, _]: [u8; 8] = array(input)?;
+        let first = u64::from(word(input)?);
+        let second = u64::from(word(input)?);
+        let answer = Said::of(kind, first, second).ok_or(io::ErrorKind::InvalidData)?;
+        Ok(Front {
+            fill,
+            answer,
+            used: length(input)?,
+            used_after: length(input)?,
+            pages: length(input)?,
+            hint: length(input)?,
+            output: length(input)?,
+            index: length(input)?,
+            data: length(input)?,
+        })
     }
 }
 
-// Lays count bytes at a place of v into a buffer from an offset on.
-fn lay(v: &[u8], at: usize, buf: &mut [u8], offset: usize, count: usize) {
-    for k in 0..count {
-        let b = bytes::byte(v, std::num::wrapping_add_usize(at, k));
-        bytes::set(buf, std::num::wrapping_add_usize(offset, k), b);
-    }
-}
-
-// Lays the patch list at a place of v into a buffer, and answers the place behind the list.
-pub fn patch(v: &[u8], at: usize, buf: &mut [u8]) -> usize {
-    let count = length(v, at);
-    let mut next = std::num::wrapping_add_usize(at, 2);
+/// Lays the next patch list into a buffer.
+pub fn patch(input: &mut impl Read, buf: &mut [u8]) -> io::Result<()> {
+    let count = length(input)?;
     for _ in 0..count {
-        let offset = (bytes::number(v, next, 4) % 0x1_0000_0000) as usize;
-        let size = length(v, std::num::wrapping_add_usize(next, 4));
-        let bytes_at = std::num::wrapping_add_usize(next, 6);
-        lay(v, bytes_at, buf, offset, size);
-        next = std::num::wrapping_add_usize(bytes_at, size);
+        let offset = word(input)? as usize;
+        let size = length(input)?;
+        let end = offset.saturating_add(size);
+        let part = buf.get_mut(offset..end).ok_or(io::ErrorKind::InvalidData)?;
+        input.read_exact(part)?;
     }
-    next
+    Ok(())
 }

@@ -1,0 +1,167 @@
+//! A stream of step records in, a line for each out.
+ghost use Rattle.std.specs.Prelude.{◌≡◌, ◌≢◌, ◌<◌, ◌≤◌, List, ℕ, length, take, IsOk, Err, OnOk, IfSome};
+ghost use Rattle.std.specs.Io.KnownBytes.{Appends, Consumes, IsAtEnd};
+ghost use Rattle.check_records.specs.Lines.{line as line_of, lines_of, whole_records};
+ghost use Rattle.check_records.specs.declared.stream.Stop.TheVariants.{Unread};
+
+use checker::check;
+use checker::verdict::Fault;
+use interpreter::record::Record;
+use std::io;
+use std::io::{Read, Write};
+
+/// How many records are judged at a time: the most that fit 65,536 bytes.
+const RECORDS: usize = 87;
+
+/// How many bytes they have.
+const CHUNK: usize = RECORDS * Record::SIZE;
+
+/// Room for their lines. A line has at most 32 bytes: 20 digits, a space, `refused 27` and the line end.
+pub const TEXT: usize = RECORDS * 32;
+
+/// Why a stream was not judged to its end.
+#[derive(Clone, Copy, Debug, PartialEq, Eq, Drop)]
+pub enum Stop {
+    /// A read failed. Nobody knows whether more would have come, so a remainder is not judged.
+    Unread,
+    /// A write failed.
+    Unwritten,
+    /// The input went on for 2^64 - 1 chunks: a proved loop has to end.
+    Endless,
+}
+
+/// Fills the buffer from its front, and answers how many bytes were read, and how the last read went: fewer than all are
+/// read only where the input ends or a read fails. A read may bring fewer bytes than asked, as one of a pipe does.
+fn fill<R: Read>(input: &mut R, buf: &mut [u8]) -> (usize, io::Result<()>)
+    ensures bound { result.0 ≤ length buf.new }
+    ensures bytes { Consumes (R.remaining input.old) (R.remaining input.new) (take result.0 buf.new) }
+    ensures end { IsOk result.1 → result.0 < length buf.new → IsAtEnd (R.remaining input.new) }
+{
+    let mut done = 0;
+    while done < buf.len() {
+        match input.read(&mut buf[done..]) {
+            Ok(0) => return (done, Ok(())),
+            Ok(count) => done += count,
+            Err(error) => return (done, Err(error)),
+        }
+    }
+    (done, Ok(()))
+}
+
+/// Writes a record's line.
+#[tactic(auto, unfolding(crate::specs::Lines::line, crate::specs::Lines::said))]
+fn line<W: Write>(output: &mut W, position: u64, verdict: Result<(), Fault>) -> io::Result<()>
+    ensures { OnOk result (Appends (W.contents output.old) (W.contents output.new) (line_of position verdict)) }
+{
+    match verdict {
+        Ok(()) => writeln!(output, "{position} accepted"),
+        Err(fault) => {
+            let number = u8::from(fault);
+            writeln!(output, "{position} refused {number}")
+        }
+    }
+}
+
+/// Writes a line for each record, and one for a short remainder. The first record has the position `from`.
+fn lines<W: Write>(output: &mut W, records: &[u8], from: u64) -> io::Result<()>
+    ensures { OnOk result (Appends (W.contents output.old) (W.contents output.new) (lines_of from records.now)) }
+{
+    let mut position = from;
+    for record in records.chunks(Record::SIZE) {
+        line(output, position, check::check(record))?;
+        position = position.wrapping_add(1);
+    }
+    output.flush()
+}
+
+/// Writes the lines of records, and says on standard error if that fails.
+fn answer<W: Write>(rt: &impl Eprint, output: &mut W, records: &[u8], from: u64) -> Result<(), Stop>
+    ensures written { OnOk result (Appends (W.contents output.old) (W.contents output.new) (lines_of from records.now)) }
+    ensures failed { result ≢ Err Unread }
+{
+    match lines(output, records, from) {
+        Ok(()) => Ok(()),
+        Err(error) => {
+            let _ = eprintln!(rt; "standard output: {error}");
+            Err(Stop::Unwritten)
+        }
+    }
+}
+
+/// Judges each record of the input. At its end the output has got exactly the lines of the input's bytes, and after a
+/// failed read those of the whole records before it. A failure is said on standard error.
+pub fn judge<R: Read, W: Write>(rt: &impl Eprint, input: &mut R, output: &mut W) -> Result<(), Stop>
+    ensures whole { OnOk result (IfSome (R.remaining input.old) (λ xs. Appends (W.contents output.old) (W.contents output.new) (lines_of 0 xs))) }
+    ensures unread { result ≡ Err Unread → (bs : List ℕ) × Consumes (R.remaining input.old) (R.remaining input.new) bs × Appends (W.contents output.old) (W.contents output.new) (lines_of 0 (whole_records bs)) }
+{
+    let mut records = [0u8; CHUNK];
+    let mut from: u64 = 0;
+    for _ in 0..u64::MAX {
+        let (count, read) = fill(input, &mut records);
+        if let Err(error) = read {
+            let _ = eprintln!(rt; "standard input: {error}");
+            answer(rt, output, &records[..count - count % Record::SIZE], from)?;
+            return Err(Stop::Unread);
+        }
+        answer(rt, output, &records[..count], from)?;
+        if count < CHUNK {
+            return Ok(());
+        }
+        from = from.wrapping_add(RECORDS as u64);
+    }
+    Err(Stop::Endless)
+}
+
+#[cfg(test)]
+mod tests {
+    use super::*;
+    use std::test::Fail;
+
+    /// Gives its bytes five at a time, and then fails.
+    #[derive(Drop)]
+    struct Failing<'a> {
+        bytes: &'a [u8],
+    }
+
+    impl Read for Failing<'_> {
+        fn read(&mut self, buf: &mut [u8]) -> io::Result<usize> {
+            if self.bytes.is_empty() {
+                return Err(io::Error::from(io::ErrorKind::Other));
+            }
+            let count = self.bytes.len().min(buf.len()).min(5);
+            let (front, rest) = self.bytes.split_at(count);
+            buf[..count].copy_from_slice(front);
+            self.bytes = rest;
+            Ok(count)
+        }
+    }
+
+    #[test]
+    fn whole_records_before_an_error_are_judged(rt: HostRuntime) -> Result<(), Fail> {
+        let bytes = vec![in rt.alloc(); 0u8; 2000]?;
+        let mut input = Failing {
+            bytes: bytes.as_slice(),
+        };
+        let mut output = Vec::new(rt.alloc());
+        let judged = judge(&rt, &mut input, &mut output);
+        assert!(rt; judged == Err(Stop::Unread));
+        assert_eq!(rt;
+            output.as_slice(),
+            b"0 refused 27\n1 refused 27\n".as_slice()
+        );
+        Ok(())
+    }
+
+    #[test]
+    fn a_remainder_is_judged(rt: HostRuntime) -> Result<(), Fail> {
+        let bytes = [0u8; 753];
+        let mut output = Vec::new(rt.alloc());
+        let judged = judge(&rt, &mut bytes.as_slice(), &mut output);
+        assert!(rt; judged == Ok(()));
+        assert_eq!(rt;
+            output.as_slice(),
+            b"0 refused 27\n1 refused 21\n".as_slice()
+        );
+        Ok(())
+    }
+}
