@@ -149,25 +149,32 @@ cpu_with c k n = record { pc = k.pc; next = k.next; hi = k.hi; lo = k.lo; heap =
 
 -- a change carried out on registers r and pages p
 pub record Completed (r p : List ℕ) (u : ℕ) (d : Pair) (t : Option ℕ) (e : Change) (q : Turn) (r' p' : List ℕ) : Type 0 where
-  pub made : q.made ≡ true
   pub core : q.core ≡ core_after e
   pub window : q.data ≡ d
   pub regs : r' ≡ set_reg r e.dest e.value
   pub pages : stored (Ok u) p' ≡ putting p u (storing t e)
   pub kept : (v : Window) → Shows p u v → Shows p' u v
 
--- a step that was not made leaves everything, and one that was is the definition's
-pub data Turned (c : Cpu) (k : Core) (w u : ℕ) (r p : List ℕ) (q : Turn) (r' p' : List ℕ) : Type 0 where
-  stays : q.made ≡ false → r' ≡ r → p' ≡ p → Turned c k w u r p q r' p'
-  makes : q.made ≡ true → Both p' u q.data → ((v : Window) → Shows p u v → Shows p' u v)
-      → ((n : ℕ) (y h o x d : List ℕ) → left SteppedBy (machine (cpu_with c q.core (n + 1)) r' y u p' h o) true ≡ working x d (machine (counted (cpu_with c k n)) r y u p h o) (λ s. executing s w (touch_of s.regs w)))
-      → Turned c k w u r p q r' p'
+-- a step that was made is the definition's
+pub record Makes (c : Cpu) (k : Core) (w u : ℕ) (r p : List ℕ) (q : Turn) (r' p' : List ℕ) : Type 0 where
+  pub shows : Both p' u q.data
+  pub kept : (v : Window) → Shows p u v → Shows p' u v
+  pub step : (n : ℕ) (y h o x d : List ℕ) → left SteppedBy (machine (cpu_with c q.core (n + 1)) r' y u p' h o) true ≡ working x d (machine (counted (cpu_with c k n)) r y u p h o) (λ s. executing s w (touch_of s.regs w))
 
--- the word at pc, where it was found
-pub record Fetches (p : List ℕ) (u pc : ℕ) (f : Fetched) : Type 0 where
+-- and one that was not made leaves everything
+abbrev pub Turned : Cpu → Core → ℕ → ℕ → List ℕ → List ℕ → Option Turn → List ℕ → List ℕ → Type 0
+Turned c k w u r p (Some q) r' p' = Makes c k w u r p q r' p'
+Turned c k w u r p None r' p' = (r' ≡ r) × (p' ≡ p)
+
+-- the word at an aligned pc, and the page that it stands in
+pub record Finds (p : List ℕ) (u pc : ℕ) (f : Fetched) : Type 0 where
   pub shows : Shows p u f.code
-  pub aligned : f.found ≡ true → pc % 4 ≡ 0
-  pub word : f.found ≡ true → f.word ≡ big 4 (byte_at p u) pc
+  pub aligned : pc % 4 ≡ 0
+  pub word : f.word ≡ big 4 (byte_at p u) pc
+
+abbrev pub Fetches : List ℕ → ℕ → ℕ → Option Fetched → Type 0
+Fetches p u pc (Some f) = Finds p u pc f
+Fetches p u pc None = Unit {0}
 
 -- the run of a machine that is not refused with 1 is so many steps, and the rest
 pub record Gone (c : Cpu) (u : ℕ) (r p : List ℕ) (budget : ℕ) (e : Went) (r' p' : List ℕ) (y h o x d : List ℕ) : Type 0 where

@@ -25,18 +25,16 @@ pub(crate) struct Core {
     pub lo: u64,
 }
 
-// A step that was made, or was not and left everything as it was; and the pages of the loads and stores.
+// What a step that was made leaves: the numbers, and the pages of the loads and stores.
 #[derive(Clone, Copy)]
 pub(crate) struct Turn {
-    pub made: bool,
     pub core: Core,
     pub data: Pair,
 }
 
-// The word at pc, where pc is aligned and its page is there, and that page.
+// A word, and the page that it stands in.
 #[derive(Clone, Copy)]
 pub(crate) struct Fetched {
-    pub found: bool,
     pub code: Window,
     pub word: u64,
 }
@@ -123,7 +121,6 @@ fn finish(regs: &mut [u64; 32], d: Pair, e: Change) -> Turn
 {
     step::set_reg(regs, e.dest, e.value);
     Turn {
-        made: true,
         core: Core {
             pc: e.pc,
             next: e.next,
@@ -162,19 +159,15 @@ fn rarely(
     d: Pair,
     t: Option<u64>,
     mem: u64,
-) -> Turn
+) -> Option<Turn>
     requires { Both pages.old used d × (covered d.near t ≡ true) × (t ≡ touch_of regs.old word) × (mem ≡ eight_at (byte_at pages.old used) t) }
     ensures { Turned c k word used regs.old pages.old result regs.new pages.new }
 {
     let effect = cpu::kernel(step::ins_of(c.with_core(k), regs, word, mem));
     let Ok(e) = effect else {
-        return Turn {
-            made: false,
-            core: k,
-            data: d,
-        };
+        return None;
     };
-    complete(regs, pages, used, d, t, e)
+    Some(complete(regs, pages, used, d, t, e))
 }
 
 // A load or store in another page than the last one, and what is rare.
@@ -186,7 +179,7 @@ fn slowly(
     pages: &mut [u8],
     used: usize,
     data: Pair,
-) -> Turn
+) -> Option<Turn>
     requires { Both pages.old used «data» × (k.pc % 4 ≡ 0) }
     ensures { Turned c k word used regs.old pages.old result regs.new pages.new }
 {
@@ -194,11 +187,7 @@ fn slowly(
     let d = window_of(data, pages, used, t);
     let w = d.near;
     if !covers(w, t) {
-        return Turn {
-            made: false,
-            core: k,
-            data: d,
-        };
+        return None;
     }
     let mem = touched(w, pages, used, t);
     let i = step::ins_of(c.with_core(k), regs, word, mem);
@@ -206,7 +195,7 @@ fn slowly(
     let Some(e) = effect else {
         return rarely(c, k, word, regs, pages, used, d, t, mem);
     };
-    complete(regs, pages, used, d, t, e)
+    Some(complete(regs, pages, used, d, t, e))
 }
 
 // One step of the instruction at an aligned pc.
@@ -218,7 +207,7 @@ fn once(
     pages: &mut [u8],
     used: usize,
     data: Pair,
-) -> Turn
+) -> Option<Turn>
     requires { Both pages.old used «data» × (k.pc % 4 ≡ 0) }
     ensures { Turned c k word used regs.old pages.old result regs.new pages.new }
 {
@@ -226,13 +215,13 @@ fn once(
     let key = Key::of(word);
     let plain = frequent::plain(i, key);
     if let Some(e) = plain {
-        return finish(regs, data, e);
+        return Some(finish(regs, data, e));
     }
     let w = data.near;
     let kept = frequent::kept(i, w, pages, used, key);
     if let Some(e) = kept {
         let t = Some(i.address() / 8 * 8);
-        return complete(regs, pages, used, data, t, e);
+        return Some(complete(regs, pages, used, data, t, e));
     }
     slowly(c, k, word, regs, pages, used, data)
 }
@@ -249,32 +238,20 @@ fn after(c: Cpu, k: Core, count: u64) -> Went
     Went { cpu, count }
 }
 
-// The word at pc, by way of the page that the last one came from.
-fn fetch(w: Window, pages: &[u8], used: usize, pc: u64) -> Fetched
+// The word at pc, where pc is aligned and its page is there, by way of the page that the last one came from.
+fn fetch(w: Window, pages: &[u8], used: usize, pc: u64) -> Option<Fetched>
     requires { Shows pages.now used w }
     ensures { Fetches pages.now used pc result }
 {
     if pc % 4 != 0 {
-        return Fetched {
-            found: false,
-            code: w,
-            word: 0,
-        };
+        return None;
     }
     let code = w.to(pages, used, pc);
     if !code.has(pc) {
-        return Fetched {
-            found: false,
-            code,
-            word: 0,
-        };
+        return None;
     }
     let word = code.word(pages, used, pc);
-    Fetched {
-        found: true,
-        code,
-        word,
-    }
+    Some(Fetched { code, word })
 }
 
 // Steps, until one is not made here or as many as the budget are. A turn ends with the fetch for the next one: so the word is
@@ -285,29 +262,24 @@ pub(crate) fn go(c: Cpu, regs: &mut [u64; 32], pages: &mut [u8], used: usize, bu
     if c.exited {
         return Went { cpu: c, count: 0 };
     }
-    let first = fetch(Window::none(), pages, used, c.pc);
-    if !first.found {
+    let Some(first) = fetch(Window::none(), pages, used, c.pc) else {
         return Went { cpu: c, count: 0 };
-    }
+    };
     let mut core = c.core();
     let mut data = Pair::none();
     let mut code = first.code;
     let mut word = first.word;
-    let mut count = 0;
-    while count < budget {
-        let q = once(c, core, word, regs, pages, used, data);
-        if !q.made {
+    for count in 0..budget {
+        let Some(turn) = once(c, core, word, regs, pages, used, data) else {
             return after(c, core, count);
-        }
-        core = q.core;
-        data = q.data;
-        count += 1;
-        let f = fetch(code, pages, used, core.pc);
-        if !f.found {
-            return after(c, core, count);
-        }
-        code = f.code;
-        word = f.word;
+        };
+        core = turn.core;
+        data = turn.data;
+        let Some(next) = fetch(code, pages, used, core.pc) else {
+            return after(c, core, count + 1);
+        };
+        code = next.code;
+        word = next.word;
     }
-    after(c, core, count)
+    after(c, core, budget)
 }

@@ -1,5 +1,5 @@
 -- Many steps in a row: from the parts of a quick step to the definition's, and how the steps add up.
-use Rattle.std.proofs.Common.{◌≡◌, ℕ, zero, suc, ◌+◌, ◌*◌, ◌/◌, ◌%◌, ◌^◌, ◌<◌, true, false, List, sym, refl, ap, ◌∙◌, add-one, arith, eq-eqb, Ok, Option, Some, None}
+use Rattle.std.proofs.Common.{◌≡◌, ℕ, zero, suc, ◌+◌, ◌*◌, ◌/◌, ◌%◌, ◌^◌, ◌<◌, true, false, List, sym, refl, ap, subst, ◌∙◌, add-one, arith, eq-eqb, Ok, Option, Some, None}
 use Rattle.std.specs.Prelude.{Option, Some, Ok}
 use Rattle.pages.specs.Bytes.{big}
 use Rattle.pages.specs.Pages.{byte_at}
@@ -22,7 +22,7 @@ use Rattle.interpreter.specs.declared.step.Answer.TheVariants.{Stepped}
 use Rattle.interpreter.specs.Machine.{machine, reg, counted, changed, bad}
 use Rattle.interpreter.specs.Step.{left, putting, advance}
 use Rattle.interpreter.specs.Plan.{eight_at, storing, ins_of, touch_of}
-use Rattle.interpreter.specs.Parts.{Agrees, Shows, Both, key_of, Quiet, Reaches, eight_of, covered, core_of, core_after, later, cpu_with, Completed, Turned, stays, makes, Gone}
+use Rattle.interpreter.specs.Parts.{Agrees, Shows, Both, key_of, Quiet, Reaches, eight_of, covered, core_of, core_after, later, cpu_with, Completed, Makes, Turned, Gone}
 use Rattle.interpreter.proofs.Laws.Tests.{no_true}
 use Rattle.interpreter.proofs.Laws.Frequent.{agrees_as}
 use Rattle.interpreter.proofs.Laws.Plans.{change_stored, exec_done, step_done}
@@ -90,42 +90,27 @@ module _ (c : Cpu) (k : Core) (r : List ℕ) (w y : ℕ) {b : Cpu} {i : Ins} (z1
 
 module _ (c : Cpu) (k : Core) (w u : ℕ) (r p : List ℕ) {t : Option ℕ} {y : ℕ} {e : Change} {b : Pair} where
   pub turned : t ≡ touch_of r w → y ≡ eight_at (byte_at p u) t → kernel_def (ins_of (cpu_with c k 0) r w y) ≡ Ok e → Both p u b
-      → {q : Turn} {r' p' : List ℕ} → Completed r p u b t e q r' p' → Turned c k w u r p q r' p'
+      → {q : Turn} {r' p' : List ℕ} → Completed r p u b t e q r' p' → Makes c k w u r p q r' p'
   unfolding ins_of counted changed cpu_with core_after later
   turned z1 z2 z3 s {q} g =
-      makes g.made (rw g.window (g.kept b.near s.0, g.kept b.far s.1)) g.kept
-      (λ n a h o x d. exec_done (counted (cpu_with c k n)) r a u p h o x d w z1 z2 refl refl z3
-      (change_stored (counted (cpu_with c k n)) r a u p h o x d t e g.pages g.regs (rw (g.core, add-one))))
+      record {
+        shows = rw g.window (g.kept b.near s.0, g.kept b.far s.1);
+        kept = g.kept;
+        step = λ n a h o x d. exec_done (counted (cpu_with c k n)) r a u p h o x d w z1 z2 refl refl z3
+            (change_stored (counted (cpu_with c k n)) r a u p h o x d t e g.pages g.regs (rw (g.core, add-one)));
+      }
 
 -- the same with what was stored
 pub completed : {r p : List ℕ} {u : ℕ} {b : Pair} {t : Option ℕ} {e : Change} {q : Turn} {r' p' : List ℕ} → ((s : List ℕ) (n : ℕ) → Completed r s n b None e q r' s) → stored (Ok u) p' ≡ putting p u (storing t e)
     → ((v : Window) → Shows p u v → Shows p' u v) → Completed r p u b t e q r' p'
-completed {p = p} {u = u} f g h = let z = f p u in record { made = z.made; core = z.core; window = z.window; regs = z.regs; pages = g; kept = h }
+completed {p = p} {u = u} f g h = let z = f p u in record { core = z.core; window = z.window; regs = z.regs; pages = g; kept = h }
 
 -- ---- what a turn leaves, by whether it was made
 
-module _ {c : Cpu} {k : Core} {w u : ℕ} {r p : List ℕ} {q : Turn} {r' p' : List ℕ} where
-  pub turned_regs : Turned c k w u r p q r' p' → q.made ≡ false → r' ≡ r
-  turned_regs (stays b e g) h = e
-  turned_regs (makes b s l g) h = no_true (sym b ∙ h)
-
-  pub turned_pages : Turned c k w u r p q r' p' → q.made ≡ false → p' ≡ p
-  turned_pages (stays b e g) h = g
-  turned_pages (makes b s l g) h = no_true (sym b ∙ h)
-
-  pub turned_shows : Turned c k w u r p q r' p' → q.made ≡ true → Both p' u q.data
-  turned_shows (stays b e g) h = no_true (sym h ∙ b)
-  turned_shows (makes b s l g) h = s
-
-  pub turned_kept : Turned c k w u r p q r' p' → q.made ≡ true → {v : Window} → Shows p u v → Shows p' u v
-  turned_kept (stays b e g) h = no_true (sym h ∙ b)
-  turned_kept (makes b s l g) h = l _
-
-  turned_advance : c.exited ≡ false → w ≡ big 4 (byte_at p u) k.pc → Turned c k w u r p q r' p' → q.made ≡ true
-      → (n : ℕ) (y h o x d : List ℕ) → left Stepped (machine (cpu_with c q.core (n + 1)) r' y u p' h o) true ≡ advance x d (machine (cpu_with c k n) r y u p h o)
-  unfolding cpu_with
-  turned_advance e z (stays b i g) h = no_true (sym h ∙ b)
-  turned_advance e z (makes b s l g) h = λ n y i o x d. step_done (cpu_with c k n) r y u p i o x d e refl z (g n y i o x d)
+makes_advance : {c : Cpu} {k : Core} {w u : ℕ} {r p : List ℕ} {q : Turn} {r' p' : List ℕ} → c.exited ≡ false → w ≡ big 4 (byte_at p u) k.pc → Makes c k w u r p q r' p'
+    → (n : ℕ) (y h o x d : List ℕ) → left Stepped (machine (cpu_with c q.core (n + 1)) r' y u p' h o) true ≡ advance x d (machine (cpu_with c k n) r y u p h o)
+unfolding cpu_with
+makes_advance {c} {k} {w} {u} {r} {p} e z g n y i o x d = step_done (cpu_with c k n) r y u p i o x d e refl z (g.step n y i o x d)
 
 -- ---- the steps add up
 
@@ -146,16 +131,15 @@ module _ (c : Cpu) (u : ℕ) (r p : List ℕ) (budget : ℕ) (y h o x d : List �
       → Gone c u r p budget (record { cpu = cpu_with c k n; count = n }) r' p' y h o x d → Gone c u r p budget e r' p' y h o x d
   gone_here k n i g = rw i g
 
-  pub gone_stays : (k : Core) (n : ℕ) {w : ℕ} {e : Went} {q : Turn} {r1 p1 r2 p2 : List ℕ} → Turned c k w u r1 p1 q r2 p2 → q.made ≡ false
-      → e ≡ record { cpu = cpu_with c k n; count = n }
+  pub gone_stays : (k : Core) (n : ℕ) {e : Went} {r1 p1 r2 p2 : List ℕ} → (r2 ≡ r1) × (p2 ≡ p1) → e ≡ record { cpu = cpu_with c k n; count = n }
       → Gone c u r p budget (record { cpu = cpu_with c k n; count = n }) r1 p1 y h o x d → Gone c u r p budget e r2 p2 y h o x d
-  gone_stays k n t m i g = rw (i, turned_regs t m, turned_pages t m) g
+  gone_stays k n s i g = rw (i, s.0, s.1) g
 
   pub gone_turn : (k : Core) (n : ℕ) {w : ℕ} {q : Turn} {r1 p1 r2 p2 : List ℕ} → c.exited ≡ false → n < budget → w ≡ big 4 (byte_at p1 u) k.pc
-      → Turned c k w u r1 p1 q r2 p2 → q.made ≡ true → Gone c u r p budget (record { cpu = cpu_with c k n; count = n }) r1 p1 y h o x d
+      → Makes c k w u r1 p1 q r2 p2 → Gone c u r p budget (record { cpu = cpu_with c k n; count = n }) r1 p1 y h o x d
       → Gone c u r p budget (record { cpu = cpu_with c q.core (n + 1); count = n + 1 }) r2 p2 y h o x d
-  gone_turn k n {r1 = r1} {p1 = p1} e l z t m g =
-      let a = turned_advance e z t m n y h o x d in
+  gone_turn k n {r1 = r1} {p1 = p1} e l z t g =
+      let a = makes_advance e z t n y h o x d in
       record { within = omega arith; fine = turn_good x d (machine (cpu_with c k n) r1 y u p1 h o) _ g.fine a; rest = run_turn x d _ budget n (machine (cpu_with c k n) r1 y u p1 h o) g.rest _ g.fine l a refl refl }
 
 -- ---- the step counter

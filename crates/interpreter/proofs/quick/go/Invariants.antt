@@ -9,14 +9,9 @@ use Rattle.interpreter.proofs.quick.go.Given as goal
 -- made so far and the rest.
 abbrev pub invariant-loop-count : goal.invariant-loop-count
 invariant-loop-count l =
-    (l.count ≤ l.budget)
-    × (l.core.pc % 4 ≡ 0)
+    (l.core.pc % 4 ≡ 0)
     × (l.word ≡ big 4 (byte_at l.pages l.used) l.core.pc)
     × Shows l.pages l.used l.code
     × Both l.pages l.used l.data
     × (length l.pages ≡ length l.initial.pages)
     × ((y h o x d : List ℕ) → bad (machine l.c l.initial.regs y l.used l.initial.pages h o) ≡ false → Gone l.c l.used l.initial.regs l.initial.pages l.budget (record { cpu = cpu_with l.c l.core l.count; count = l.count }) l.regs l.pages y h o x d)
-
-abbrev pub decreases-loop-count : goal.decreases-loop-count
-decreases-loop-count l =
-    l.budget - l.count
