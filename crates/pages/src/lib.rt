@@ -3,7 +3,7 @@
 #![tactic(auto)]
 
 // Big-endian numbers of four and eight bytes, at a place of a slice.
-pub mod number;
+mod number;
 
 // Runs of bytes at a place of a slice.
 mod spans;

@@ -47,7 +47,7 @@ impl Error for PageError {}
 
 /// No record is left for a page that is absent.
 #[derive(Clone, Copy, Debug, PartialEq, Eq)]
-pub struct NoRecordLeft;
+pub(crate) struct NoRecordLeft;
 
 impl fmt::Display for NoRecordLeft {
     fn fmt<W: fmt::Write>(&self, f: &mut fmt::Formatter<W>) -> fmt::Result {
@@ -59,7 +59,7 @@ impl Error for NoRecordLeft {}
 
 /// Records that are lent to be read, and how many of them are used: no more than there are.
 #[derive(Clone, Copy)]
-pub struct Pages<'a> {
+pub(crate) struct Pages<'a> {
     pub bytes: &'a [u8],
     pub used: usize,
     pub ghost within: { used ≤ length bytes.now / 4104 },
@@ -115,7 +115,7 @@ impl<'a> Pages<'a> {
 
 /// Records that are lent to be written, and how many of them are used: no more than there are.
 #[derive(Drop)]
-pub struct PagesMut<'a> {
+pub(crate) struct PagesMut<'a> {
     pub bytes: &'a mut [u8],
     pub used: usize,
     pub ghost within: { used ≤ length bytes.now / 4104 },
@@ -197,7 +197,7 @@ impl<'a> PagesMut<'a> {
 }
 
 /// Whether the slice has so many records.
-pub fn fits(bytes: &[u8], used: usize) -> bool
+pub(crate) fn fits(bytes: &[u8], used: usize) -> bool
     ensures yes { OnTrue result (used ≤ whole bytes.now) }
     ensures no { OnFalse result (whole bytes.now < used) }
 {

@@ -4,4 +4,4 @@ use Rattle.pages.proofs.number.U64Number.read.Goals as goal
 
 pub returns : goal.returns
 unfolding big
-returns c = rw add-zero (omega (arith, c.from_be_bytes.ensures))
+returns c = rw add-zero (omega arith)
