@@ -255,7 +255,9 @@ fn fetch(w: Window, pages: &[u8], used: usize, pc: u64) -> Option<Fetched>
 }
 
 // Steps, until one is not made here or as many as the budget are. A turn ends with the fetch for the next one: so the word is
-// one load for the compiler, where it would else take the fields out of single bytes.
+// one load for the compiler, where it would else take the fields out of single bytes. It is a function of its own, since the loop
+// was seen to run a tenth to a third slower where its registers had to be shared with its caller's.
+#[inline(never)]
 pub(crate) fn go(c: Cpu, regs: &mut [u64; 32], pages: &mut [u8], used: usize, budget: u64) -> Went
     ensures { (y h o x d : List ℕ) → bad (machine c regs.old y used pages.old h o) ≡ false → Gone c used regs.old pages.old budget result regs.new pages.new y h o x d }
 {
