@@ -1,5 +1,5 @@
 -- Many steps in a row: from the parts of a quick step to the definition's, and how the steps add up.
-use Rattle.std.proofs.Common.{◌≡◌, ℕ, zero, suc, ◌+◌, ◌*◌, ◌/◌, ◌%◌, ◌^◌, ◌<◌, true, false, List, sym, refl, ap, subst, ◌∙◌, add-one, arith, eq-eqb, Ok, Option, Some, None}
+use Rattle.std.proofs.Common.{◌≡◌, ℕ, zero, suc, ◌+◌, ◌*◌, ◌/◌, ◌%◌, ◌^◌, ◌<◌, true, false, List, sym, refl, ap, ◌∙◌, add-one, arith, eq-eqb, Ok, Option, Some, None}
 use Rattle.std.specs.Prelude.{Option, Some, Ok}
 use Rattle.pages.specs.Bytes.{big}
 use Rattle.pages.specs.Pages.{byte_at}
@@ -22,8 +22,7 @@ use Rattle.interpreter.specs.declared.step.Answer.TheVariants.{Stepped}
 use Rattle.interpreter.specs.Machine.{machine, reg, counted, changed, bad}
 use Rattle.interpreter.specs.Step.{left, putting, advance}
 use Rattle.interpreter.specs.Plan.{eight_at, storing, ins_of, touch_of}
-use Rattle.interpreter.specs.Parts.{Agrees, Shows, Both, key_of, Quiet, Reaches, eight_of, covered, core_of, core_after, later, cpu_with, Completed, Makes, Turned, Gone}
-use Rattle.interpreter.proofs.Laws.Tests.{no_true}
+use Rattle.interpreter.specs.Parts.{Agrees, Shows, Both, key_of, Quiet, Reaches, eight_of, covered, core_of, core_after, later, cpu_with, Completed, Makes, Gone}
 use Rattle.interpreter.proofs.Laws.Frequent.{agrees_as}
 use Rattle.interpreter.proofs.Laws.Plans.{change_stored, exec_done, step_done}
 use Rattle.interpreter.proofs.Laws.Runs.{turn_good, run_holds, run_turn}
