@@ -1,15 +1,18 @@
 //! A machine with all that is lent to it, and the answer to its last step.
-use crate::answer::Said;
 use interpreter::state::State;
 use interpreter::step;
+use interpreter::step::{Answer, Values};
 use pages::page::Page;
 use std::array;
 
 /// Every byte of what is lent, but for page numbers and instruction.
 const FILL: u8 = 0xee;
 
+/// How many bytes stand before those of the lent buffers: the state's 360, and nine numbers.
+const FRONT: usize = 360 + 9 * 8;
+
 /// A buffer of which so many bytes are lent. The rest is compared too.
-#[derive(Clone, Copy, PartialEq, Eq)]
+#[derive(Clone, Copy)]
 pub struct Buffer<const N: usize> {
     pub bytes: [u8; N],
     pub lent: usize,
@@ -39,7 +42,7 @@ pub struct Machine {
     pub output: Buffer<128>,
     pub index: Buffer<256>,
     pub data: Buffer<256>,
-    pub answer: Said,
+    pub answer: Answer,
 }
 
 /// Registers, hi, lo and key all hold different bytes: those that stand at places 0 to 351 of the state's layout count up from
@@ -84,7 +87,7 @@ impl Machine {
             output: Buffer::filled(16),
             index: Buffer::filled(0),
             data: Buffer::filled(0),
-            answer: Said::Stepped,
+            answer: Answer::Stepped,
         }
     }
 
@@ -101,27 +104,53 @@ impl Machine {
         );
         self.state = finished.state;
         self.used = finished.used;
-        self.answer = Said::from(finished.answer);
+        self.answer = finished.answer;
     }
 
-    /// The first part in which another machine differs, of every byte of the two.
-    pub fn difference(&self, other: &Machine) -> Option<&'static str> {
-        let parts = [
-            ("the state", self.state.encode() == other.state.encode()),
-            ("the used records", self.used == other.used),
-            ("the pages", self.pages == other.pages),
-            ("the hint buffer", self.hint == other.hint),
-            ("the output buffer", self.output == other.output),
-            ("the index", self.index == other.index),
-            ("the data", self.data == other.data),
-            ("the answer", self.answer == other.answer),
+    /// The state's bytes, and then the numbers beside it, of eight bytes each.
+    fn front(&self) -> [u8; FRONT] {
+        let Values {
+            kind,
+            first,
+            second,
+        } = self.answer.values();
+        let numbers = [
+            self.used as u64,
+            self.pages.lent as u64,
+            self.hint.lent as u64,
+            self.output.lent as u64,
+            self.index.lent as u64,
+            self.data.lent as u64,
+            u64::from(kind),
+            first,
+            second,
         ];
-        for (part, is_same) in parts {
-            if !is_same {
-                return Some(part);
-            }
+        let mut front = [0; FRONT];
+        let (state, rest) = front.split_at_mut(360);
+        state.copy_from_slice(&self.state.encode());
+        for (place, number) in rest.chunks_exact_mut(8).zip(numbers) {
+            place.copy_from_slice(&number.to_be_bytes());
         }
-        None
+        front
+    }
+
+    /// The first place in which another machine differs, of every byte of the two: 0 to 359 are the state's, from 360 on stand
+    /// the used count, what is lent of pages, hint buffer, output, index and data, and the answer's kind and two values, from 432
+    /// on the hint buffer, from 560 on the output, from 688 on the index, from 944 on the data, and from 1200 on the pages.
+    pub fn difference(&self, other: &Machine) -> Option<usize> {
+        let bytes = |machine: &Machine| {
+            machine
+                .front()
+                .into_iter()
+                .chain(machine.hint.bytes)
+                .chain(machine.output.bytes)
+                .chain(machine.index.bytes)
+                .chain(machine.data.bytes)
+                .chain(machine.pages.bytes)
+        };
+        bytes(self)
+            .zip(bytes(other))
+            .position(|(here, there)| here != there)
     }
 
     /// Goes on as a call does that is counted.
