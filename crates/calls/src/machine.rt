@@ -1,4 +1,5 @@
 //! A machine with all that is lent to it, and the answer to its last step.
+use interpreter::layout::Layout;
 use interpreter::state::State;
 use interpreter::step;
 use interpreter::step::{Answer, Values};
@@ -8,8 +9,11 @@ use std::array;
 /// Every byte of what is lent, but for page numbers and instruction.
 const FILL: u8 = 0xee;
 
-/// How many bytes stand before those of the lent buffers: the state's 360, and nine numbers.
-const FRONT: usize = 360 + 9 * 8;
+/// How many bytes stand before those of the lent buffers: the state's, and nine numbers.
+const FRONT: usize = Layout::SIZE + 9 * Layout::NUMBER;
+
+/// Three whole records and five bytes more.
+const PAGES: usize = 3 * Page::RECORD_SIZE + 5;
 
 /// A buffer of which so many bytes are lent. The rest is compared too.
 #[derive(Clone, Copy)]
@@ -37,7 +41,7 @@ impl<const N: usize> Buffer<N> {
 pub struct Machine {
     pub state: State,
     pub used: usize,
-    pub pages: Buffer<12317>,
+    pub pages: Buffer<PAGES>,
     pub hint: Buffer<128>,
     pub output: Buffer<128>,
     pub index: Buffer<256>,
@@ -61,24 +65,26 @@ impl Machine {
     /// and page 5 are used; 24 bytes of hint buffer, 16 of output, no input.
     pub fn plain() -> Machine {
         let state = State {
-            regs: array::from_fn(|r| number_of_place(r.wrapping_mul(8))),
+            regs: array::from_fn(|r| number_of_place(r.wrapping_mul(Layout::NUMBER))),
             pc: 0x1000,
             next: 0x1004,
-            hi: number_of_place(272),
-            lo: number_of_place(280),
+            hi: number_of_place(Layout::HI),
+            lo: number_of_place(Layout::LO),
             heap: 0x2000_0000,
             step: 41,
             offset: 0,
             hint: 0,
-            key: array::from_fn(|k| byte_of_place(k.wrapping_add(320))),
+            key: array::from_fn(|k| byte_of_place(k.wrapping_add(Layout::KEY))),
             exited: false,
             code: 0x77,
             rules: 0,
         };
-        let mut pages = Buffer::filled(12317);
+        let mut pages = Buffer::filled(PAGES);
         pages.bytes[..8].copy_from_slice(&1u64.to_be_bytes());
         pages.bytes[8..12].copy_from_slice(b"\x00\x00\x00\x0c");
-        pages.bytes[4104..4112].copy_from_slice(&5u64.to_be_bytes());
+        pages.bytes[Page::RECORD_SIZE..Page::RECORD_SIZE + Page::NUMBER_SIZE].copy_from_slice(
+            &5u64.to_be_bytes(),
+        );
         Machine {
             state,
             used: 2,
@@ -126,9 +132,9 @@ impl Machine {
             second,
         ];
         let mut front = [0; FRONT];
-        let (state, rest) = front.split_at_mut(360);
+        let (state, rest) = front.split_at_mut(Layout::SIZE);
         state.copy_from_slice(&self.state.encode());
-        for (place, number) in rest.chunks_exact_mut(8).zip(numbers) {
+        for (place, number) in rest.chunks_exact_mut(Layout::NUMBER).zip(numbers) {
             place.copy_from_slice(&number.to_be_bytes());
         }
         front
