@@ -15,14 +15,17 @@
 //!     valid HEX, invalid HEX                  whether bytes are UTF-8
 //!
 //! and "NUMBER V", "BUFFER AT HEX" for the names in words.rt.
-use crate::answer::Said;
 use crate::hex;
 use crate::machine::Machine;
+use interpreter::step::Answer;
 use interpreter::utf8;
 use std::alloc::{AllocError, Global};
 
-/// What is wrong with a word that names nothing, or whose values cannot be read.
-const UNREAD: &str = "a word";
+/// What a case is wrong at, in place of a place, where a word names nothing or its values cannot be read.
+const UNREAD: usize = 65534;
+
+/// And where a text is judged otherwise than the case says.
+const TEXT: usize = 65533;
 
 #[derive(Drop)]
 struct Case {
@@ -34,10 +37,10 @@ struct Case {
 
 impl Case {
     /// Compares the machine that the words describe with the one that was stepped.
-    fn settle(&mut self) -> Result<(), &'static str> {
+    fn settle(&mut self) -> Result<(), usize> {
         match self.stepped.take() {
             Some(stepped) => match self.machine.difference(&stepped) {
-                Some(part) => Err(part),
+                Some(place) => Err(place),
                 None => Ok(()),
             },
             None => Ok(()),
@@ -45,14 +48,14 @@ impl Case {
     }
 
     fn step(&mut self) {
-        self.machine.answer = Said::Stepped;
+        self.machine.answer = Answer::Stepped;
         let mut stepped = self.machine;
         stepped.step();
         self.stepped = Some(stepped);
     }
 
     /// Carries a word out, and answers how many of the values behind it belong to it.
-    fn turn(&mut self, word: &str, values: &[&str]) -> Result<usize, &'static str> {
+    fn turn(&mut self, word: &str, values: &[&str]) -> Result<usize, usize> {
         match word {
             "step" => {
                 self.settle()?;
@@ -71,7 +74,7 @@ impl Case {
 }
 
 /// Whether the bytes of the first value are UTF-8, as is said.
-fn judge_text(values: &[&str], is_valid: bool) -> Result<usize, &'static str> {
+fn judge_text(values: &[&str], is_valid: bool) -> Result<usize, usize> {
     let mut buf = [0u8; 64];
     let word = values.first().ok_or(UNREAD)?;
     let count = hex::put(word, &mut buf, 0).ok_or(UNREAD)?;
@@ -79,11 +82,11 @@ fn judge_text(values: &[&str], is_valid: bool) -> Result<usize, &'static str> {
     if utf8::valid(text) == is_valid {
         Ok(1)
     } else {
-        Err("a text")
+        Err(TEXT)
     }
 }
 
-fn carry_words(words: &[&str]) -> Result<(), &'static str> {
+fn carry_words(words: &[&str]) -> Result<(), usize> {
     let mut case = Case {
         machine: Machine::plain(),
         stepped: None,
@@ -97,8 +100,9 @@ fn carry_words(words: &[&str]) -> Result<(), &'static str> {
     case.settle()
 }
 
-/// Carries the words of a case out, and answers what is wrong, if anything is.
-pub fn carry(alloc: Global, text: &str) -> Result<Option<&'static str>, AllocError> {
+/// Carries the words of a case out, and answers the first place that is wrong, if any is (`Machine::difference`, or `UNREAD` or
+/// `TEXT`).
+pub fn carry(alloc: Global, text: &str) -> Result<Option<usize>, AllocError> {
     let mut words = Vec::new(alloc);
     for line in text.lines() {
         if !line.starts_with('#') {

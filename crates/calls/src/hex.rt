@@ -17,6 +17,9 @@ pub fn put(word: &str, buf: &mut [u8], at: usize) -> Option<usize> {
     if word == "." {
         return Some(0);
     }
+    if word.len() % 2 != 0 {
+        return None;
+    }
     let count = word.len() / 2;
     let end = at.checked_add(count)?;
     let part = buf.get_mut(at..end)?;

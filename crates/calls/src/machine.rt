@@ -1,15 +1,22 @@
 //! A machine with all that is lent to it, and the answer to its last step.
-use crate::answer::Said;
+use interpreter::layout::Layout;
 use interpreter::state::State;
 use interpreter::step;
+use interpreter::step::{Answer, Values};
 use pages::page::Page;
 use std::array;
 
 /// Every byte of what is lent, but for page numbers and instruction.
 const FILL: u8 = 0xee;
 
+/// How many bytes stand before those of the lent buffers: the state's, and nine numbers.
+const FRONT: usize = Layout::SIZE + 9 * Layout::NUMBER;
+
+/// Three whole records and five bytes more.
+const PAGES: usize = 3 * Page::RECORD_SIZE + 5;
+
 /// A buffer of which so many bytes are lent. The rest is compared too.
-#[derive(Clone, Copy, PartialEq, Eq)]
+#[derive(Clone, Copy)]
 pub struct Buffer<const N: usize> {
     pub bytes: [u8; N],
     pub lent: usize,
@@ -34,12 +41,12 @@ impl<const N: usize> Buffer<N> {
 pub struct Machine {
     pub state: State,
     pub used: usize,
-    pub pages: Buffer<12317>,
+    pub pages: Buffer<PAGES>,
     pub hint: Buffer<128>,
     pub output: Buffer<128>,
     pub index: Buffer<256>,
     pub data: Buffer<256>,
-    pub answer: Said,
+    pub answer: Answer,
 }
 
 /// Registers, hi, lo and key all hold different bytes: those that stand at places 0 to 351 of the state's layout count up from
@@ -58,24 +65,26 @@ impl Machine {
     /// and page 5 are used; 24 bytes of hint buffer, 16 of output, no input.
     pub fn plain() -> Machine {
         let state = State {
-            regs: array::from_fn(|r| number_of_place(r.wrapping_mul(8))),
+            regs: array::from_fn(|r| number_of_place(r.wrapping_mul(Layout::NUMBER))),
             pc: 0x1000,
             next: 0x1004,
-            hi: number_of_place(272),
-            lo: number_of_place(280),
+            hi: number_of_place(Layout::HI),
+            lo: number_of_place(Layout::LO),
             heap: 0x2000_0000,
             step: 41,
             offset: 0,
             hint: 0,
-            key: array::from_fn(|k| byte_of_place(k.wrapping_add(320))),
+            key: array::from_fn(|k| byte_of_place(k.wrapping_add(Layout::KEY))),
             exited: false,
             code: 0x77,
             rules: 0,
         };
-        let mut pages = Buffer::filled(12317);
+        let mut pages = Buffer::filled(PAGES);
         pages.bytes[..8].copy_from_slice(&1u64.to_be_bytes());
         pages.bytes[8..12].copy_from_slice(b"\x00\x00\x00\x0c");
-        pages.bytes[4104..4112].copy_from_slice(&5u64.to_be_bytes());
+        pages.bytes[Page::RECORD_SIZE..Page::RECORD_SIZE + Page::NUMBER_SIZE].copy_from_slice(
+            &5u64.to_be_bytes(),
+        );
         Machine {
             state,
             used: 2,
@@ -84,7 +93,7 @@ impl Machine {
             output: Buffer::filled(16),
             index: Buffer::filled(0),
             data: Buffer::filled(0),
-            answer: Said::Stepped,
+            answer: Answer::Stepped,
         }
     }
 
@@ -101,27 +110,53 @@ impl Machine {
         );
         self.state = finished.state;
         self.used = finished.used;
-        self.answer = Said::from(finished.answer);
+        self.answer = finished.answer;
     }
 
-    /// The first part in which another machine differs, of every byte of the two.
-    pub fn difference(&self, other: &Machine) -> Option<&'static str> {
-        let parts = [
-            ("the state", self.state.encode() == other.state.encode()),
-            ("the used records", self.used == other.used),
-            ("the pages", self.pages == other.pages),
-            ("the hint buffer", self.hint == other.hint),
-            ("the output buffer", self.output == other.output),
-            ("the index", self.index == other.index),
-            ("the data", self.data == other.data),
-            ("the answer", self.answer == other.answer),
+    /// The state's bytes, and then the numbers beside it, of eight bytes each.
+    fn front(&self) -> [u8; FRONT] {
+        let Values {
+            kind,
+            first,
+            second,
+        } = self.answer.values();
+        let numbers = [
+            self.used as u64,
+            self.pages.lent as u64,
+            self.hint.lent as u64,
+            self.output.lent as u64,
+            self.index.lent as u64,
+            self.data.lent as u64,
+            u64::from(kind),
+            first,
+            second,
         ];
-        for (part, is_same) in parts {
-            if !is_same {
-                return Some(part);
-            }
+        let mut front = [0; FRONT];
+        let (state, rest) = front.split_at_mut(Layout::SIZE);
+        state.copy_from_slice(&self.state.encode());
+        for (place, number) in rest.chunks_exact_mut(Layout::NUMBER).zip(numbers) {
+            place.copy_from_slice(&number.to_be_bytes());
         }
-        None
+        front
+    }
+
+    /// The first place in which another machine differs, of every byte of the two: 0 to 359 are the state's, from 360 on stand
+    /// the used count, what is lent of pages, hint buffer, output, index and data, and the answer's kind and two values, from 432
+    /// on the hint buffer, from 560 on the output, from 688 on the index, from 944 on the data, and from 1200 on the pages.
+    pub fn difference(&self, other: &Machine) -> Option<usize> {
+        let bytes = |machine: &Machine| {
+            machine
+                .front()
+                .into_iter()
+                .chain(machine.hint.bytes)
+                .chain(machine.output.bytes)
+                .chain(machine.index.bytes)
+                .chain(machine.data.bytes)
+                .chain(machine.pages.bytes)
+        };
+        bytes(self)
+            .zip(bytes(other))
+            .position(|(here, there)| here != there)
     }
 
     /// Goes on as a call does that is counted.

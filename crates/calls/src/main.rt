@@ -3,7 +3,6 @@
 //! document 01.
 #![tactic(auto)]
 
-mod answer;
 mod case;
 mod hex;
 mod machine;

@@ -1,7 +1,8 @@
 //! The words that set parts of a machine, with their values.
-use crate::answer::Said;
 use crate::machine::Machine;
 use crate::{hex, machine};
+use interpreter::effect::Refusal;
+use interpreter::step::Answer;
 
 /// A number: decimal, or hexadecimal behind 0x.
 fn number(word: &str) -> Option<u64> {
@@ -17,6 +18,10 @@ fn value(values: &[&str], k: usize) -> Option<u64> {
 
 fn size(values: &[&str], k: usize) -> Option<usize> {
     usize::try_from(value(values, k)?).ok()
+}
+
+fn refusal(number: u64) -> Option<Refusal> {
+    Refusal::try_from(u8::try_from(number).ok()?).ok()
 }
 
 /// Puts the bytes of the second value at the place of the first.
@@ -132,10 +137,10 @@ impl Machine {
     fn set_answer(&mut self, word: &str, values: &[&str]) -> Option<usize> {
         let first = value(values, 0)?;
         let (answer, taken) = match word {
-            "wrote" => (Said::Wrote(first, value(values, 1)?), 2),
-            "gave" => (Said::Gave(first), 1),
-            "left" => (Said::Left(first), 1),
-            "refused" => (Said::Refused(first), 1),
+            "wrote" => (Answer::Wrote(first, value(values, 1)?), 2),
+            "gave" => (Answer::Hint(first), 1),
+            "left" => (Answer::Exited(u8::try_from(first).ok()?), 1),
+            "refused" => (Answer::Refused(refusal(first)?), 1),
             _ => return None,
         };
         self.answer = answer;

@@ -38,6 +38,7 @@ fn fill<R: Read>(input: &mut R, buf: &mut [u8]) -> (usize, io::Result<()>)
     ensures end { IsOk result.1 → result.0 < length buf.new → IsAtEnd (R.remaining input.new) }
 {
     let mut done = 0;
+    // A loop of its own: after a failure std's `read_exact` doesn't say how many bytes it has read, nor which.
     while done < buf.len() {
         match input.read(&mut buf[done..]) {
             Ok(0) => return (done, Ok(())),
@@ -115,6 +116,7 @@ pub fn judge<R: Read, W: Write>(rt: &impl Eprint, input: &mut R, output: &mut W)
 #[cfg(test)]
 mod tests {
     use super::*;
+    use std::io::BufWriter;
     use std::test::Fail;
 
     /// Gives its bytes five at a time, and then fails.
@@ -149,6 +151,45 @@ mod tests {
             output.as_slice(),
             b"0 refused 27\n1 refused 27\n".as_slice()
         );
+        Ok(())
+    }
+
+    /// Takes five bytes at a time as long as it has room, and then fails.
+    #[derive(Drop)]
+    struct Full {
+        taken: Vec<u8>,
+        room: usize,
+    }
+
+    impl Write for Full {
+        fn write(&mut self, buf: &[u8]) -> io::Result<usize> {
+            let count = self.room.saturating_sub(self.taken.len());
+            if count == 0 {
+                return Err(io::Error::from(io::ErrorKind::StorageFull));
+            }
+            let count = count.min(buf.len()).min(5);
+            self.taken.extend_from_slice(&buf[..count])?;
+            Ok(count)
+        }
+
+        fn flush(&mut self) -> io::Result<()> {
+            Ok(())
+        }
+    }
+
+    #[test]
+    fn no_line_is_lost_at_a_failed_write(rt: HostRuntime) -> Result<(), Fail> {
+        let bytes = [0u8; 2000];
+        let writer = Full {
+            taken: Vec::new(rt.alloc()),
+            room: 18,
+        };
+        let mut output = BufWriter::with_capacity(rt.alloc(), TEXT, writer)?;
+        let judged = judge(&rt, &mut bytes.as_slice(), &mut output);
+        assert!(rt; judged == Err(Stop::Unwritten));
+        let (writer, unwritten) = output.into_parts();
+        assert_eq!(rt; writer.taken.as_slice(), b"0 refused 27\n1 ref".as_slice());
+        assert_eq!(rt; unwritten.as_slice(), b"used 27\n2 refused 21\n".as_slice());
         Ok(())
     }
 

@@ -1,5 +1,5 @@
 // What an instruction reads, and what it does.
-ghost use Rattle.std.specs.Prelude.{◌≡◌};
+ghost use Rattle.std.specs.Prelude.{◌≡◌, ◌≢◌, IfOk, IfErr};
 ghost use Rattle.interpreter.specs.declared.effect.Stop.TheVariants.{Refused};
 ghost use Rattle.interpreter.specs.Effects.{seeing, refusal_number, changes, to_register, to_rd, to_rt, storing, going};
 
@@ -105,6 +105,35 @@ impl From<Refusal> for u8 {
             Refusal::InputOffset => 11,
             Refusal::HintShort => 12,
             Refusal::HintText => 13,
+        }
+    }
+}
+
+/// The refusal of a number; a number that no refusal has comes back.
+impl TryFrom<u8> for Refusal {
+    ghost use Rattle.interpreter.specs.declared.effect.Refusal.{Refusal};
+
+    type Error = u8;
+
+    ghost try_from_gives = { λ n r. IfOk r (λ x. refusal_number x ≡ n) × IfErr r (λ e. (e ≡ n) × ((x : Refusal) → refusal_number x ≢ n)) };
+
+    #[tactic(auto, unfolding(crate::specs::Effects::refusal_number))]
+    fn try_from(number: u8) -> Result<Refusal, u8> {
+        match number {
+            1 => Ok(Refusal::BadMachine),
+            2 => Ok(Refusal::PcMisaligned),
+            3 => Ok(Refusal::Reserved),
+            4 => Ok(Refusal::DelaySlot),
+            5 => Ok(Refusal::DivideByZero),
+            6 => Ok(Refusal::Overflow),
+            7 => Ok(Refusal::AddressError),
+            8 => Ok(Refusal::MemoryFull),
+            9 => Ok(Refusal::NoRoom),
+            10 => Ok(Refusal::NoInput),
+            11 => Ok(Refusal::InputOffset),
+            12 => Ok(Refusal::HintShort),
+            13 => Ok(Refusal::HintText),
+            _ => Err(number),
         }
     }
 }

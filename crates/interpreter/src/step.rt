@@ -17,7 +17,7 @@ use pages::memory;
 use pages::page::Page;
 
 // What a step answers.
-#[derive(Clone, Copy)]
+#[derive(Clone, Copy, Debug, PartialEq, Eq)]
 pub enum Answer {
     Stepped,
     // Stream and count.

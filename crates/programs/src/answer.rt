@@ -2,6 +2,7 @@
 use interpreter::step::Answer;
 use std::fmt;
 
+/// An answer that prints as text. A wrapper, since the text is this program's alone.
 #[derive(Clone, Copy)]
 pub struct Said(pub Answer);
 

@@ -3,13 +3,14 @@ use crate::answer::Said;
 use interpreter::run;
 use interpreter::state::State;
 use pages::memory;
+use pages::page::Page;
 use std::io;
 
 /// A machine with two page records, of which those that are needed are used.
 #[derive(Drop)]
 pub struct Machine {
     pub state: State,
-    pub pages: [u8; 8208],
+    pub pages: [u8; 2 * Page::RECORD_SIZE],
     pub used: usize,
     pub output: [u8; 64],
 }
@@ -36,7 +37,7 @@ impl Machine {
         };
         let mut machine = Machine {
             state,
-            pages: [0; 8208],
+            pages: [0; 2 * Page::RECORD_SIZE],
             used: 0,
             output: [0; 64],
         };

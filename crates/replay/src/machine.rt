@@ -1,33 +1,18 @@
 //! A vector's whole machine: laid out, stepped, and every byte of it held against what the judge saw.
-use crate::vector::{Front, Said};
+use crate::vector::Front;
 use crate::{second, vector};
 use interpreter::effect::Refusal;
+use interpreter::layout::Layout;
 use interpreter::state::State;
 use interpreter::step::Answer;
 use interpreter::{layout, run, step};
 use std::io;
 use std::io::Read;
 
-fn number(refusal: Refusal) -> u64 {
-    u64::from(u8::from(refusal))
-}
-
-impl From<Answer> for Said {
-    fn from(answer: Answer) -> Said {
-        match answer {
-            Answer::Stepped => Said::Stepped,
-            Answer::Wrote(stream, count) => Said::Wrote(stream, count),
-            Answer::Hint(count) => Said::Hint(count),
-            Answer::Exited(code) => Said::Exited(u64::from(code)),
-            Answer::Refused(refusal) => Said::Refused(number(refusal)),
-        }
-    }
-}
-
 /// The longest buffers of a list, and the state's bytes.
 #[derive(Clone, Copy)]
 struct Buffers {
-    state: [u8; 360],
+    state: [u8; Layout::SIZE],
     pages: [u8; 20519],
     hint: [u8; 1024],
     output: [u8; 8191],
@@ -39,7 +24,7 @@ impl Buffers {
     /// What was before: six patch lists over the fill, and the state's over zeros.
     fn before(input: &mut impl Read, fill: u8) -> io::Result<Buffers> {
         let mut buffers = Buffers {
-            state: [0; 360],
+            state: [0; Layout::SIZE],
             pages: [fill; 20519],
             hint: [fill; 1024],
             output: [fill; 8191],
@@ -75,7 +60,7 @@ pub struct Machine {
     front: Front,
     state: State,
     used: usize,
-    answer: Said,
+    answer: Answer,
     buffers: Buffers,
 }
 
@@ -93,7 +78,7 @@ impl Machine {
         );
         self.state = finished.state;
         self.used = finished.used;
-        self.answer = Said::from(finished.answer);
+        self.answer = finished.answer;
         Some(())
     }
 
@@ -111,14 +96,14 @@ impl Machine {
         );
         self.state = stopped.state;
         self.used = stopped.used;
-        self.answer = Said::from(stopped.answer);
+        self.answer = stopped.answer;
         Some(())
     }
 
     /// Makes the step as the second of a run of two. `None` where it cannot be that.
     pub fn second(&mut self) -> Option<()> {
         // Refusal 1 leaves the step before it too, so that it is no second step.
-        if self.front.answer == Said::Refused(1) {
+        if self.front.answer == Answer::Refused(Refusal::BadMachine) {
             return None;
         }
         let state = self.state;
@@ -148,7 +133,7 @@ fn verdict<F: Fn(&mut Machine) -> Option<()>>(vector: &[u8], way: &F) -> io::Res
         front,
         state,
         used: front.used,
-        answer: Said::Stepped,
+        answer: Answer::Stepped,
         buffers,
     };
     if way(&mut machine).is_none() {
@@ -167,7 +152,7 @@ fn verdict<F: Fn(&mut Machine) -> Option<()>>(vector: &[u8], way: &F) -> io::Res
 pub enum Replayed {
     Differs,
     /// As the judge says, and whether as the second step of a run too.
-    Agrees { answer: Said, twice: bool },
+    Agrees { answer: Answer, twice: bool },
 }
 
 /// Replays a vector by `step`, by a run of one, and as the second step of a run.

@@ -10,7 +10,7 @@ mod second;
 mod vector;
 
 use crate::machine::Replayed;
-use crate::vector::Said;
+use interpreter::step::Answer;
 use std::io::Read;
 use std::rt::Files;
 use std::{fmt, fs, io};
@@ -33,13 +33,13 @@ fn count(n: &mut u64) {
 }
 
 impl Tally {
-    fn add(&mut self, answer: Said, twice: bool) {
+    fn add(&mut self, answer: Answer, twice: bool) {
         match answer {
-            Said::Stepped => count(&mut self.stepped),
-            Said::Wrote(_, _) => count(&mut self.wrote),
-            Said::Hint(_) => count(&mut self.hint),
-            Said::Exited(_) => count(&mut self.exited),
-            Said::Refused(_) => count(&mut self.refused),
+            Answer::Stepped => count(&mut self.stepped),
+            Answer::Wrote(_, _) => count(&mut self.wrote),
+            Answer::Hint(_) => count(&mut self.hint),
+            Answer::Exited(_) => count(&mut self.exited),
+            Answer::Refused(_) => count(&mut self.refused),
         }
         if twice {
             count(&mut self.twice);

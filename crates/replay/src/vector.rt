@@ -1,29 +1,23 @@
 //! One vector of a list, behind its length (compare/README.md has the form; its offsets count the length's four bytes).
+use interpreter::effect::Refusal;
+use interpreter::step::Answer;
 use std::io;
 use std::io::Read;
 
-/// What the judge's step answered. A refusal is its number.
-#[derive(Clone, Copy, Debug, PartialEq, Eq)]
-pub enum Said {
-    Stepped,
-    /// The stream and the count.
-    Wrote(u64, u64),
-    Hint(u64),
-    Exited(u64),
-    Refused(u64),
+fn refusal(number: u32) -> Option<Refusal> {
+    Refusal::try_from(u8::try_from(number).ok()?).ok()
 }
 
-impl Said {
-    /// An answer of a list, whose values are 0 where it has none. `None` where there is no such answer.
-    fn of(kind: u8, first: u64, second: u64) -> Option<Said> {
-        match (kind, first, second) {
-            (0, 0, 0) => Some(Said::Stepped),
-            (1, stream, count) => Some(Said::Wrote(stream, count)),
-            (2, count, 0) => Some(Said::Hint(count)),
-            (3, code, 0) => Some(Said::Exited(code)),
-            (4, number, 0) => Some(Said::Refused(number)),
-            _ => None,
-        }
+/// What the judge's step answered, of its kind and two values, which are 0 where the answer has none. `None` where there is no
+/// such answer.
+fn answer(kind: u8, first: u32, second: u32) -> Option<Answer> {
+    match (kind, first, second) {
+        (0, 0, 0) => Some(Answer::Stepped),
+        (1, stream, count) => Some(Answer::Wrote(u64::from(stream), u64::from(count))),
+        (2, count, 0) => Some(Answer::Hint(u64::from(count))),
+        (3, code, 0) => Some(Answer::Exited(u8::try_from(code).ok()?)),
+        (4, number, 0) => Some(Answer::Refused(refusal(number)?)),
+        _ => None,
     }
 }
 
@@ -31,7 +25,7 @@ impl Said {
 #[derive(Clone, Copy)]
 pub struct Front {
     pub fill: u8,
-    pub answer: Said,
+    pub answer: Answer,
     pub used: usize,
     pub used_after: usize,
     /// How much is lent of each buffer.
@@ -63,9 +57,9 @@ impl Front {
     /// Reads a vector's front. The patch lists stand behind it.
     pub fn read(input: &mut impl Read) -> io::Result<Front> {
         let [_, _, _, _, _, fill, kind, _]: [u8; 8] = array(input)?;
-        let first = u64::from(word(input)?);
-        let second = u64::from(word(input)?);
-        let answer = Said::of(kind, first, second).ok_or(io::ErrorKind::InvalidData)?;
+        let first = word(input)?;
+        let second = word(input)?;
+        let answer = answer(kind, first, second).ok_or(io::ErrorKind::InvalidData)?;
         Ok(Front {
             fill,
             answer,
