@@ -149,7 +149,7 @@ fn complete(
 }
 
 // An instruction that is not among the frequent ones.
-fn rarely(
+fn step_by_kernel(
     c: Cpu,
     k: Core,
     word: u64,
@@ -171,7 +171,7 @@ fn rarely(
 }
 
 // A load or store in another page than the last one, and what is rare.
-fn slowly(
+fn step_after_lookup(
     c: Cpu,
     k: Core,
     word: u64,
@@ -193,13 +193,13 @@ fn slowly(
     let i = step::ins_of(c.with_core(k), regs, word, mem);
     let effect = frequent::elsewhere(i, Opcode::decode(word));
     let Some(e) = effect else {
-        return rarely(c, k, word, regs, pages, used, d, t, mem);
+        return step_by_kernel(c, k, word, regs, pages, used, d, t, mem);
     };
     Some(complete(regs, pages, used, d, t, e))
 }
 
 // One step of the instruction at an aligned pc.
-fn once(
+fn plain_step(
     c: Cpu,
     k: Core,
     word: u64,
@@ -223,7 +223,7 @@ fn once(
         let t = Some(i.address() / 8 * 8);
         return Some(complete(regs, pages, used, data, t, e));
     }
-    slowly(c, k, word, regs, pages, used, data)
+    step_after_lookup(c, k, word, regs, pages, used, data)
 }
 
 // The step counter is one more with each step, so it is reckoned at the end.
@@ -258,7 +258,13 @@ fn fetch(w: Window, pages: &[u8], used: usize, pc: u64) -> Option<Fetched>
 // one load for the compiler, where it would else take the fields out of single bytes. It is a function of its own, since the loop
 // was seen to run a tenth to a third slower where its registers had to be shared with its caller's.
 #[inline(never)]
-pub(crate) fn go(c: Cpu, regs: &mut [u64; 32], pages: &mut [u8], used: usize, budget: u64) -> Went
+pub(crate) fn plain_steps(
+    c: Cpu,
+    regs: &mut [u64; 32],
+    pages: &mut [u8],
+    used: usize,
+    budget: u64,
+) -> Went
     ensures { (y h o x d : List ℕ) → bad (machine c regs.old y used pages.old h o) ≡ false → Gone c used regs.old pages.old budget result regs.new pages.new y h o x d }
 {
     if c.exited {
@@ -272,7 +278,7 @@ pub(crate) fn go(c: Cpu, regs: &mut [u64; 32], pages: &mut [u8], used: usize, bu
     let mut code = first.code;
     let mut word = first.word;
     for count in 0..budget {
-        let Some(turn) = once(c, core, word, regs, pages, used, data) else {
+        let Some(turn) = plain_step(c, core, word, regs, pages, used, data) else {
             return after(c, core, count);
         };
         core = turn.core;

@@ -1,12 +1,12 @@
 // The step repeated (document 01, "One step").
 ghost use Rattle.std.specs.Prelude.{◌≡◌, ◌+◌, ◌-◌, ◌^◌, ◌<◌, ◌≤◌, false, ℕ, List};
-ghost use Rattle.interpreter.specs.Machine.{Machine, bad};
+ghost use Rattle.interpreter.specs.Machine.{Machine as AnyMachine, bad};
 ghost use Rattle.interpreter.specs.Step.{left, machine_of};
 ghost use Rattle.interpreter.specs.Runs.{is_stepped, more, ended, ran, stopped, run_def};
 ghost use Rattle.interpreter.specs.Lent.{held, index_in, data_in, SameLoans};
 
 use crate::effect::Refusal;
-use crate::machine::{Input, Machine as Lent};
+use crate::machine::{Input, Machine};
 use crate::state::{Cpu, State};
 use crate::step::{Answer, Made};
 use crate::{quick, step};
@@ -31,19 +31,13 @@ pub struct Stopped {
 fn is_stepped(a: Answer) -> bool
     ensures { result ≡ is_stepped a }
 {
-    match a {
-        Answer::Stepped => true,
-        Answer::Wrote(_, _) => false,
-        Answer::Hint(_) => false,
-        Answer::Exited(_) => false,
-        Answer::Refused(_) => false,
-    }
+    matches!(a, Answer::Stepped)
 }
 
 // The last call, after so many counted ones.
 fn last(made: Made, count: u64) -> Ended
     requires { count + 1 < 2 ^ 64 }
-    ensures { (m : Machine) → ran result.answer m result.count ≡ more count (ended (left made.answer m made.counts)) }
+    ensures { (m : AnyMachine) → ran result.answer m result.count ≡ more count (ended (left made.answer m made.counts)) }
 {
     let answer = made.answer;
     if made.counts {
@@ -55,9 +49,9 @@ fn last(made: Made, count: u64) -> Ended
     Ended { answer, count }
 }
 
-impl Lent<'_, '_, '_, '_, '_, '_> {
+impl Machine<'_, '_, '_, '_, '_, '_> {
     // Many plain steps in a row, and how many they were.
-    fn hurry(&mut self, budget: u64) -> u64
+    fn plain_steps(&mut self, budget: u64) -> u64
         requires { bad (held self.old) ≡ false }
         ensures lent { SameLoans self.old self.new }
         ensures within { result ≤ budget }
@@ -68,7 +62,7 @@ impl Lent<'_, '_, '_, '_, '_, '_> {
         let used = self.used;
         let regs = &mut *self.regs;
         let pages = &mut *self.pages;
-        let went = quick::go(c, regs, pages, used, budget);
+        let went = quick::plain_steps(c, regs, pages, used, budget);
         self.cpu = went.cpu;
         went.count
     }
@@ -80,8 +74,9 @@ impl Lent<'_, '_, '_, '_, '_, '_> {
         ensures machine { ran result.answer (held self.new) result.count ≡ run_def (index_in self.old) (data_in self.old) budget (held self.old) }
     {
         let mut count = 0;
+        // No `for`: a turn makes as many steps as it can.
         while count < budget {
-            count += self.hurry(budget - count);
+            count += self.plain_steps(budget - count);
             if budget <= count {
                 return Ended {
                     answer: Answer::Stepped,
@@ -135,7 +130,7 @@ pub fn run(
     }
     let mut regs = s.regs;
     let mut key = s.key;
-    let mut machine = Lent {
+    let mut machine = Machine {
         cpu: c,
         regs: &mut regs,
         key: &mut key,

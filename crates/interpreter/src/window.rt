@@ -17,7 +17,8 @@ pub(crate) struct Window {
 }
 
 impl Window {
-    // An address has 64 bits and a page's number 52 of them, so no page has this one.
+    // An address has 64 bits and a page's number 52 of them, so no page has this one. A number in place of an Option: so one
+    // comparison tells both that there is a page and that it is the one.
     const NO_PAGE: u64 = u64::MAX;
 
     pub(crate) fn none() -> Window

@@ -3,7 +3,7 @@ use Rattle.interpreter.specs.Machine.{machine, bad}
 use Rattle.pages.specs.Bytes.{big}
 use Rattle.pages.specs.Pages.{byte_at}
 use Rattle.std.proofs.Common.{◌≡◌, ℕ, ◌%◌, false, List, length}
-use Rattle.interpreter.proofs.quick.go.Given as goal
+use Rattle.interpreter.proofs.quick.plain_steps.Given as goal
 
 -- The loop's invariant: the word is the one at an aligned pc, the pages are where they were found, and the whole run is the steps
 -- made so far and the rest.

@@ -2,7 +2,7 @@ use Rattle.interpreter.proofs.Laws.Turns.{ins_key, quiet_kernel, quiet_touch, re
 use Rattle.interpreter.proofs.Laws.Dests.{kernel_dest, touch_even}
 use Rattle.interpreter.specs.Plan.{touch_of}
 use Rattle.std.proofs.Common.{sym, refl, ◌∙◌}
-use Rattle.interpreter.proofs.quick.once.Goals as goal
+use Rattle.interpreter.proofs.quick.plain_step.Goals as goal
 
 pub plain-plain-requires : goal.plain-plain-requires
 plain-plain-requires c = ins_key _ _ _ _ _ c.with_core.ensures c.ins_of-i.ensures c.of-key.ensures

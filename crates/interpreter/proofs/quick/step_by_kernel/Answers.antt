@@ -2,7 +2,7 @@ use Rattle.interpreter.proofs.Laws.Turns.{kernel_is, turned}
 use Rattle.interpreter.proofs.Laws.Dests.{kernel_dest, touch_even}
 use Rattle.interpreter.specs.Plan.{touch_of}
 use Rattle.std.proofs.Common.{sym, ◌∙◌}
-use Rattle.interpreter.proofs.quick.rarely.Goals as goal
+use Rattle.interpreter.proofs.quick.step_by_kernel.Goals as goal
 
 pub complete-requires : goal.complete-requires
 unfolding touch_of
