@@ -1,14 +1,15 @@
 // Loads and stores, one function for each instruction, which has the eight bytes that it touches.
 #![tactic(auto, unfolding(crate::specs::Kernel::does, crate::specs::Loads::loaded, crate::specs::Stores::stored, crate::specs::Stores::conditionally))]
 
-ghost use Rattle.std.specs.Prelude.{◌≡◌, ◌<◌, ◌&&◌, ◌==◌, Result};
+ghost use Rattle.std.specs.Prelude.{◌≡◌, ◌<◌, ◌==◌, false, Result};
+ghost use Rattle.interpreter.specs.Words.{rules_of, by_rules};
 ghost use Rattle.interpreter.specs.Isa.{rt_of, load, store, conditional, LB, LBU, LH, LHU, LW, LWU, LL, LD, LLD, LDL, LDR, LWL, LWR, SB, SH, SW, SD, SDL, SDR, SWL, SWR, SC, SCD};
 ghost use Rattle.interpreter.specs.Effects.{to_rt, storing};
 ghost use Rattle.interpreter.specs.Loads.{offset_of, aligned};
 ghost use Rattle.interpreter.specs.Stores.{answering};
 ghost use Rattle.interpreter.specs.Kernel.{after, does};
 
-use crate::effect::{Effect, Ins, Refusal};
+use crate::effect::{Effect, Ins, Refusal, Rules};
 use crate::isa::IType;
 use crate::{bits, loads, stores};
 
@@ -98,19 +99,19 @@ pub(crate) fn ldl(i: Ins) -> Effect
 pub(crate) fn ldr(i: Ins) -> Effect
     ensures { result ≡ does (load LDR) i }
 {
-    Ok(i.to_rt(loads::ldr(i.rules, i.mem, offset(i), i.rt)))
+    Ok(i.to_rt(loads::ldr(i.rules(), i.mem, offset(i), i.rt)))
 }
 
 pub(crate) fn lwl(i: Ins) -> Effect
     ensures { result ≡ does (load LWL) i }
 {
-    Ok(i.to_rt(loads::lwl(i.rules, i.mem, offset(i), i.rt)))
+    Ok(i.to_rt(loads::lwl(i.rules(), i.mem, offset(i), i.rt)))
 }
 
 pub(crate) fn lwr(i: Ins) -> Effect
     ensures { result ≡ does (load LWR) i }
 {
-    Ok(i.to_rt(loads::lwr(i.rules, i.mem, offset(i), i.rt)))
+    Ok(i.to_rt(loads::lwr(i.rules(), i.mem, offset(i), i.rt)))
 }
 
 pub(crate) fn sb(i: Ins) -> Effect
@@ -134,7 +135,7 @@ pub(crate) fn sw(i: Ins) -> Effect
 pub(crate) fn sd(i: Ins) -> Effect
     ensures { result ≡ does (store SD) i }
 {
-    keeping(i, 8, stores::sd(i.rules, i.mem, offset(i), i.rt))
+    keeping(i, 8, stores::sd(i.rules(), i.mem, offset(i), i.rt))
 }
 
 pub(crate) fn sdl(i: Ins) -> Effect
@@ -158,14 +159,17 @@ pub(crate) fn swl(i: Ins) -> Effect
 pub(crate) fn swr(i: Ins) -> Effect
     ensures { result ≡ does (store SWR) i }
 {
-    Ok(i.storing(0, 0, stores::swr(i.rules, i.mem, offset(i), i.rt)))
+    Ok(i.storing(0, 0, stores::swr(i.rules(), i.mem, offset(i), i.rt)))
 }
 
 // With the field rt = 0 rules 0 stores nothing.
 fn skips(i: Ins) -> bool
-    ensures { result ≡ (i.rules == 0 && rt_of i.word == 0) }
+    ensures { result ≡ by_rules (rules_of i.rules) (rt_of i.word == 0) false }
 {
-    i.rules == 0 && IType::decode(i.word).rt == 0
+    match i.rules() {
+        Rules::Interpreter => IType::decode(i.word).rt == 0,
+        Rules::Manual => false,
+    }
 }
 
 // SC and SCD put 1 in a nonzero rt.
@@ -190,6 +194,6 @@ pub(crate) fn scd(i: Ins) -> Effect
 {
     answering(
         i,
-        loads::aligned(i, 8, stores::sd(i.rules, i.mem, offset(i), i.rt)),
+        loads::aligned(i, 8, stores::sd(i.rules(), i.mem, offset(i), i.rt)),
     )
 }

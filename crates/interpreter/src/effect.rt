@@ -1,11 +1,21 @@
 // What an instruction reads, and what it does.
 ghost use Rattle.std.specs.Prelude.{◌≡◌};
 ghost use Rattle.interpreter.specs.declared.effect.Stop.TheVariants.{Refused};
+ghost use Rattle.interpreter.specs.Words.{rules_of};
 ghost use Rattle.interpreter.specs.Effects.{seeing, refusal_number, changes, to_register, to_rd, to_rt, storing, going};
 
 use crate::bits;
 use crate::isa::{IType, RType};
 use std::fmt;
+
+/// The rules that decide where the Rust and the MIPS manual part.
+#[derive(Clone, Copy, Debug, PartialEq, Eq)]
+pub enum Rules {
+    /// Rules 0: what the Rust does.
+    Interpreter,
+    /// Rules 1: what the MIPS manual says.
+    Manual,
+}
 
 /// An instruction with all that it reads. `mem` is the eight bytes at the touched address, and 0 where none is touched.
 #[derive(Clone, Copy, Debug, PartialEq, Eq)]
@@ -129,6 +139,13 @@ impl From<Refusal> for Stop {
 pub type Effect = Result<Change, Stop>;
 
 impl Ins {
+    // The rules that the number names: 0 the interpreter's, every other the manual's.
+    pub(crate) fn rules(self) -> Rules
+        ensures { result ≡ rules_of self.rules }
+    {
+        if self.rules == 0 { Rules::Interpreter } else { Rules::Manual }
+    }
+
     // The same instruction with these eight bytes.
     #[tactic(auto, unfolding(crate::specs::Effects::seeing))]
     pub(crate) fn seeing(self, mem: u64) -> Ins

@@ -3,6 +3,7 @@
 ghost use Rattle.std.specs.Prelude.{◌≡◌, ◌<◌};
 ghost use Rattle.interpreter.specs.Stores.{sb, sh, sw, sd, swl, swr, sdl, sdr};
 
+use crate::effect::Rules;
 use crate::loads;
 
 pub(crate) fn sb(m: u64, o: u64, t: u64) -> u64
@@ -33,18 +34,20 @@ pub(crate) fn sw(m: u64, o: u64, t: u64) -> u64
 }
 
 // Off alignment, which rules 0 lets pass, rt is shifted up by the offset.
-pub(crate) fn sd(rules: u8, m: u64, o: u64, t: u64) -> u64
+pub(crate) fn sd(rules: Rules, m: u64, o: u64, t: u64) -> u64
     requires { o < 8 }
     ensures { result ≡ sd rules m o t }
 {
     if o == 0 {
         return t;
     }
-    if rules == 0 {
-        let up = 8 * o;
-        return (t << up) + m % (1u64 << up);
+    match rules {
+        Rules::Interpreter => {
+            let up = 8 * o;
+            (t << up) + m % (1u64 << up)
+        }
+        Rules::Manual => t,
     }
-    t
 }
 
 #[tactic(auto, using(crate::proofs::Laws::Stores::swl_is))]
@@ -60,7 +63,7 @@ pub(crate) fn swl(m: u64, o: u64, t: u64) -> u64
 
 // Rules 0 does not cut what is pushed out of the lower word.
 #[tactic(auto, using(crate::proofs::Laws::Stores::swr_or, crate::proofs::Laws::Stores::swr_upper, crate::proofs::Laws::Stores::swr_cut))]
-pub(crate) fn swr(rules: u8, m: u64, o: u64, t: u64) -> u64
+pub(crate) fn swr(rules: Rules, m: u64, o: u64, t: u64) -> u64
     requires { o < 8 }
     ensures { result ≡ swr rules m o t }
 {
@@ -68,12 +71,15 @@ pub(crate) fn swr(rules: u8, m: u64, o: u64, t: u64) -> u64
     let low = loads::word_at(m, o) % (1u64 << up);
     let wide = (t % 0x1_0000_0000) << up;
     let stored = sw(m, o, wide % 0x1_0000_0000 + low);
-    if rules == 0 {
-        if 4 <= o {
-            return stored | wide / 0x1_0000_0000 * 0x1_0000_0000;
+    match rules {
+        Rules::Interpreter => {
+            if 4 <= o {
+                return stored | wide / 0x1_0000_0000 * 0x1_0000_0000;
+            }
+            stored
         }
+        Rules::Manual => stored,
     }
-    stored
 }
 
 #[tactic(auto, using(crate::proofs::Laws::Stores::sdl_fits, crate::proofs::Laws::Stores::sdl_all, crate::proofs::Laws::Stores::sdl_part))]
