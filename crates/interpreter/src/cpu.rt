@@ -235,7 +235,8 @@ fn accesses(op: u64) -> bool
     }
 }
 
-// The eight bytes that an instruction touches, whose base register holds base.
+/// The address of the aligned eight bytes that a load or store touches, where its base register holds `base`; None of any other
+/// instruction.
 #[tactic(auto, using(crate::proofs::Laws::Touches::touches_by), unfolding(crate::specs::Kernel::touch_def))]
 pub fn touch(word: u64, base: u64) -> Option<u64>
     ensures { result ≡ touch_def word base }
@@ -247,7 +248,7 @@ pub fn touch(word: u64, base: u64) -> Option<u64>
     None
 }
 
-// What an instruction does. A misaligned pc comes before everything else.
+/// What an instruction does, for every input and every rules number. A misaligned pc is refused before everything else.
 #[tactic(auto, unfolding(crate::specs::Kernel::kernel_def))]
 pub fn kernel(i: Ins) -> Effect
     ensures { result ≡ kernel_def i }

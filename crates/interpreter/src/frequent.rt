@@ -1,5 +1,6 @@
 // The instructions that programs are mostly made of, found by one table. A run tries these first: what is not here, and what is
-// refused, is left to the kernel and the step.
+// refused, is left to the kernel and the step. A list of its own beside the kernel's (cpu.rt): called, the kernel costs some 60
+// instructions a step more, since it is too large to be inlined at more than one place.
 ghost use Rattle.std.specs.Prelude.{◌≡◌, ◌/◌, Some};
 ghost use Rattle.interpreter.specs.Words.{sext};
 ghost use Rattle.interpreter.specs.Isa.{shamt_of, imm_of, rt_of};
@@ -167,7 +168,7 @@ pub(crate) fn kept(i: Ins, w: Window, pages: &[u8], used: usize, key: u64) -> Op
     }
 }
 
-// A load or store of an instruction that has its eight bytes.
+// A load or store of an instruction that has its eight bytes. Not `kept` again over the page that was found: that was slower.
 #[tactic(auto, using(crate::proofs::Laws::Frequent::agrees_same, crate::proofs::Laws::Frequent::agrees_none), unfolding(crate::specs::OpcodeMap::find, crate::specs::OpcodeMap::found, crate::specs::OpcodeMap::decode_by, crate::specs::OpcodeMap::by_opcode, crate::specs::OpcodeMap::memory, crate::specs::OpcodeMap::jumps, crate::specs::OpcodeMap::branches, crate::specs::OpcodeMap::immediates, crate::specs::OpcodeMap::loads, crate::specs::OpcodeMap::stores))]
 pub(crate) fn elsewhere(i: Ins, op: u64) -> Option<Change>
     ensures { Agrees result (does (decode_by op i.word) i) }

@@ -8,7 +8,8 @@ use crate::bits;
 use crate::effect::{Change, Effect, Ins, Refusal, Rules, Stop};
 use crate::isa::RType;
 
-#[derive(Clone, Copy)]
+/// What goes to hi and lo, of 64 bits each.
+#[derive(Clone, Copy, Debug, PartialEq, Eq)]
 pub struct Pair {
     pub hi: u64,
     pub lo: u64,
