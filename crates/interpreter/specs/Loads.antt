@@ -26,14 +26,9 @@ aligned i n v = cond (by_rules (rules_of i.rules) false (not (address_of i.word 
 abbrev pub byte : ℕ → ℕ → ℕ
 byte m k = cell (bytes_of 8 m) k
 
-unfoldable pub byte_at : ℕ → ℕ → ℕ
-byte_at m o = big 1 (byte m) o
-
-unfoldable pub half_at : ℕ → ℕ → ℕ
-half_at m o = big 2 (byte m) (o / 2 * 2)
-
-unfoldable pub word_at : ℕ → ℕ → ℕ
-word_at m o = big 4 (byte m) (o / 4 * 4)
+-- the byte, halfword or word of n bytes that the offset is in
+unfoldable pub part_at : ℕ → ℕ → ℕ → ℕ
+part_at n m o = big n (byte m) (o / n * n)
 
 -- ---- parts. LWL and LWR take the bytes of one word, LDL and LDR those of the doubleword; both sign-extend the merged word
 
@@ -64,13 +59,13 @@ ldr rules m o t = cond (by_rules rules (o == 7) false) (or m t) (kept (o + 1) t 
 -- ---- what each loads
 
 unfoldable pub loaded : Load → Ins → Result ℕ Refusal
-loaded LB i = Ok (sext 8 (byte_at i.mem (offset_of i)))
-loaded LBU i = Ok (byte_at i.mem (offset_of i))
-loaded LH i = aligned i 2 (sext 16 (half_at i.mem (offset_of i)))
-loaded LHU i = aligned i 2 (half_at i.mem (offset_of i))
-loaded LW i = aligned i 4 (sext 32 (word_at i.mem (offset_of i)))
-loaded LWU i = aligned i 4 (word_at i.mem (offset_of i))
-loaded LL i = aligned i 4 (sext 32 (word_at i.mem (offset_of i)))
+loaded LB i = Ok (sext 8 (part_at 1 i.mem (offset_of i)))
+loaded LBU i = Ok (part_at 1 i.mem (offset_of i))
+loaded LH i = aligned i 2 (sext 16 (part_at 2 i.mem (offset_of i)))
+loaded LHU i = aligned i 2 (part_at 2 i.mem (offset_of i))
+loaded LW i = aligned i 4 (sext 32 (part_at 4 i.mem (offset_of i)))
+loaded LWU i = aligned i 4 (part_at 4 i.mem (offset_of i))
+loaded LL i = aligned i 4 (sext 32 (part_at 4 i.mem (offset_of i)))
 loaded LD i = aligned i 8 i.mem
 loaded LLD i = aligned i 8 i.mem
 loaded LWL i = Ok (lwl (rules_of i.rules) i.mem (offset_of i) i.rt)

@@ -17,14 +17,9 @@ put m k vs = big 8 (write (byte m) k vs) 0
 
 -- ---- whole bytes, halfwords, words, doublewords. Where rules 0 lets an address off alignment pass, its low bits are cleared
 
-unfoldable pub sb : ℕ → ℕ → ℕ → ℕ
-sb m o t = put m o (bytes_of 1 t)
-
-unfoldable pub sh : ℕ → ℕ → ℕ → ℕ
-sh m o t = put m (o / 2 * 2) (bytes_of 2 t)
-
-unfoldable pub sw : ℕ → ℕ → ℕ → ℕ
-sw m o t = put m (o / 4 * 4) (bytes_of 4 t)
+-- the low n bytes of rt in the byte, halfword or word that the offset is in
+unfoldable pub part_put : ℕ → ℕ → ℕ → ℕ → ℕ
+part_put n m o t = put m (o / n * n) (bytes_of n t)
 
 -- off alignment rules 0 stores rt shifted up by the offset, and keeps that many low bytes
 unfoldable pub sd : Rules → ℕ → ℕ → ℕ → ℕ
@@ -58,9 +53,9 @@ sdr m o t = put m 0 (bytes_of (o + 1) t)
 -- ---- what each stores: the eight bytes afterwards
 
 unfoldable pub stored : Store → Ins → Result ℕ Refusal
-stored SB i = Ok (sb i.mem (offset_of i) i.rt)
-stored SH i = aligned i 2 (sh i.mem (offset_of i) i.rt)
-stored SW i = aligned i 4 (sw i.mem (offset_of i) i.rt)
+stored SB i = Ok (part_put 1 i.mem (offset_of i) i.rt)
+stored SH i = aligned i 2 (part_put 2 i.mem (offset_of i) i.rt)
+stored SW i = aligned i 4 (part_put 4 i.mem (offset_of i) i.rt)
 stored SD i = aligned i 8 (sd (rules_of i.rules) i.mem (offset_of i) i.rt)
 stored SWL i = Ok (swl i.mem (offset_of i) i.rt)
 stored SWR i = Ok (swr (rules_of i.rules) i.mem (offset_of i) i.rt)

@@ -39,37 +39,37 @@ fn keeping(i: Ins, n: u64, m: u64) -> Effect
 pub(crate) fn lb(i: Ins) -> Effect
     ensures { result ≡ does (load LB) i }
 {
-    Ok(i.to_rt(bits::sext::<8>(loads::byte_at(i.mem, offset(i)))))
+    Ok(i.to_rt(bits::sext::<8>(loads::part_at::<1>(i.mem, offset(i)))))
 }
 
 pub(crate) fn lbu(i: Ins) -> Effect
     ensures { result ≡ does (load LBU) i }
 {
-    Ok(i.to_rt(loads::byte_at(i.mem, offset(i))))
+    Ok(i.to_rt(loads::part_at::<1>(i.mem, offset(i))))
 }
 
 pub(crate) fn lh(i: Ins) -> Effect
     ensures { result ≡ does (load LH) i }
 {
-    loading(i, 2, bits::sext::<16>(loads::half_at(i.mem, offset(i))))
+    loading(i, 2, bits::sext::<16>(loads::part_at::<2>(i.mem, offset(i))))
 }
 
 pub(crate) fn lhu(i: Ins) -> Effect
     ensures { result ≡ does (load LHU) i }
 {
-    loading(i, 2, loads::half_at(i.mem, offset(i)))
+    loading(i, 2, loads::part_at::<2>(i.mem, offset(i)))
 }
 
 pub(crate) fn lw(i: Ins) -> Effect
     ensures { result ≡ does (load LW) i }
 {
-    loading(i, 4, bits::sext::<32>(loads::word_at(i.mem, offset(i))))
+    loading(i, 4, bits::sext::<32>(loads::part_at::<4>(i.mem, offset(i))))
 }
 
 pub(crate) fn lwu(i: Ins) -> Effect
     ensures { result ≡ does (load LWU) i }
 {
-    loading(i, 4, loads::word_at(i.mem, offset(i)))
+    loading(i, 4, loads::part_at::<4>(i.mem, offset(i)))
 }
 
 pub(crate) fn ll(i: Ins) -> Effect
@@ -117,19 +117,19 @@ pub(crate) fn lwr(i: Ins) -> Effect
 pub(crate) fn sb(i: Ins) -> Effect
     ensures { result ≡ does (store SB) i }
 {
-    Ok(i.storing(0, 0, stores::sb(i.mem, offset(i), i.rt)))
+    Ok(i.storing(0, 0, stores::part_put::<1>(i.mem, offset(i), i.rt)))
 }
 
 pub(crate) fn sh(i: Ins) -> Effect
     ensures { result ≡ does (store SH) i }
 {
-    keeping(i, 2, stores::sh(i.mem, offset(i), i.rt))
+    keeping(i, 2, stores::part_put::<2>(i.mem, offset(i), i.rt))
 }
 
 pub(crate) fn sw(i: Ins) -> Effect
     ensures { result ≡ does (store SW) i }
 {
-    keeping(i, 4, stores::sw(i.mem, offset(i), i.rt))
+    keeping(i, 4, stores::part_put::<4>(i.mem, offset(i), i.rt))
 }
 
 pub(crate) fn sd(i: Ins) -> Effect
@@ -186,7 +186,7 @@ fn answering(i: Ins, stored: Result<u64, Refusal>) -> Effect
 pub(crate) fn sc(i: Ins) -> Effect
     ensures { result ≡ does (conditional SC) i }
 {
-    answering(i, loads::aligned(i, 4, stores::sw(i.mem, offset(i), i.rt)))
+    answering(i, loads::aligned(i, 4, stores::part_put::<4>(i.mem, offset(i), i.rt)))
 }
 
 pub(crate) fn scd(i: Ins) -> Effect

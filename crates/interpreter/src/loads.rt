@@ -1,31 +1,17 @@
 // Loads as functions of the aligned eight bytes m, the offset o in them, and t, the value of rt.
-ghost use Rattle.std.specs.Prelude.{◌≡◌, ◌^◌, ◌<◌};
-ghost use Rattle.interpreter.specs.Loads.{address_of, aligned, byte_at, half_at, word_at, lwl, lwr, ldl, ldr};
+ghost use Rattle.std.specs.Prelude.{◌≡◌, ◌+◌, ◌*◌, ◌/◌, ◌^◌, ◌<◌, ◌≤◌};
+ghost use Rattle.interpreter.specs.Loads.{address_of, aligned, part_at, lwl, lwr, ldl, ldr};
 
 use crate::bits;
 use crate::effect::{Ins, Refusal, Rules};
 use crate::isa::IType;
 
-// A function for each size: over the size n the shift is 64 - 8 * n - 8 * (o / n * n), which is no plainer, here and in stores.rt.
-pub(crate) fn byte_at(m: u64, o: u64) -> u64
-    requires { o < 8 }
-    ensures { result ≡ byte_at m o }
+// The byte, halfword or word of N bytes that the offset is in.
+pub(crate) fn part_at<const N: u64>(m: u64, o: u64) -> u64
+    requires { (0 < N) × (N < 8) × (o / N * N + N ≤ 8) }
+    ensures { (result ≡ part_at N m o) × (result < 256 ^ N) }
 {
-    (m >> (56 - 8 * o)) % 0x100
-}
-
-pub(crate) fn half_at(m: u64, o: u64) -> u64
-    requires { o < 8 }
-    ensures { result ≡ half_at m o }
-{
-    (m >> (48 - 16 * (o / 2))) % 0x1_0000
-}
-
-pub(crate) fn word_at(m: u64, o: u64) -> u64
-    requires { o < 8 }
-    ensures { (result ≡ word_at m o) × (result < 2 ^ 32) }
-{
-    (m >> (32 - 32 * (o / 4))) % 0x1_0000_0000
+    (m >> (64 - 8 * N - 8 * (o / N * N))) % (1u64 << (8 * N))
 }
 
 // Rules 0 always uses bytes 4 to 7.
@@ -38,7 +24,7 @@ pub(crate) fn lwl(rules: Rules, m: u64, o: u64, t: u64) -> u64
     let low = t % (1u64 << up);
     match rules {
         Rules::Interpreter => bits::sext::<32>((m << up) % 0x1_0000_0000 + low),
-        Rules::Manual => bits::sext::<32>((word_at(m, o) << up) % 0x1_0000_0000 + low),
+        Rules::Manual => bits::sext::<32>((part_at::<4>(m, o) << up) % 0x1_0000_0000 + low),
     }
 }
 
@@ -53,7 +39,7 @@ pub(crate) fn lwr(rules: Rules, m: u64, o: u64, t: u64) -> u64
     let kept = (t % 0x1_0000_0000) >> size << size;
     match rules {
         Rules::Interpreter => bits::sext::<32>((m >> down) % 0x1_0000_0000 | kept),
-        Rules::Manual => bits::sext::<32>(kept + (word_at(m, o) >> down)),
+        Rules::Manual => bits::sext::<32>(kept + (part_at::<4>(m, o) >> down)),
     }
 }
 

@@ -12,8 +12,8 @@ use Rattle.interpreter.specs.OpcodeMap.{decode}
 use Rattle.interpreter.specs.Effects.{refusal_number, changes, storing, going, to_register, Effect}
 use Rattle.interpreter.specs.Alu.{shift_left, shift_right, shift_signed, shift_signed_by, double_left, double_right, double_signed, sum, difference, mul, nor, leading_zeros32, leading_ones32, result, immediate}
 use Rattle.interpreter.specs.HiLo.{pair, doublewords, mult, multu, dmult, dmultu, div, divu, ddiv, ddivu, overflows, to_hi_lo, dividing, hi_lo}
-use Rattle.interpreter.specs.Loads.{offset_of, address_of, aligned, byte, byte_at, half_at, word_at, lwl, lwr, ldl, ldr, loaded}
-use Rattle.interpreter.specs.Stores.{sb, sh, sw, sd, swl, swr, sdl, sdr, stored, answering, conditionally}
+use Rattle.interpreter.specs.Loads.{offset_of, address_of, aligned, byte, part_at, lwl, lwr, ldl, ldr, loaded}
+use Rattle.interpreter.specs.Stores.{part_put, sd, swl, swr, sdl, sdr, stored, answering, conditionally}
 use Rattle.interpreter.specs.Kernel.{taken, branch_to, branching, region, jumping, after, does_other, does, kernel_def}
 use Rattle.interpreter.specs.declared.hi_lo.Pair.{Pair}
 use Rattle.interpreter.specs.declared.effect.Ins.{Ins}
@@ -367,7 +367,7 @@ module _ (i : Ins) where
       go false = value_fine v p
 
   loaded_fine : (l : Load) → FineValue i (loaded l i)
-  unfolding loaded byte_at half_at word_at lwl lwr
+  unfolding loaded part_at lwl lwr
   loaded_fine LB = value_fine _ (λ s. sext_lt 8 _ (lit≤ tt))
   loaded_fine LBU = value_fine _ (λ s. few_lt 1 i.mem _ (lit≤ tt))
   loaded_fine LH = aligned_fine 2 _ (λ s. sext_lt 16 _ (lit≤ tt))
@@ -383,7 +383,7 @@ module _ (i : Ins) where
   loaded_fine LDR = value_fine _ (λ s. ldr_lt (rules_of i.rules) i.mem (offset_of i) i.rt (offset_lt _) s.rt)
 
   stored_fine : (x : Store) → FineValue i (stored x i)
-  unfolding stored sb sh sw swl sdl sdr
+  unfolding stored part_put swl sdl sdr
   stored_fine SB = value_fine _ (λ s. put_lt i.mem _ 1 _)
   stored_fine SH = aligned_fine 2 _ (λ s. put_lt i.mem _ 2 _)
   stored_fine SW = aligned_fine 4 _ (λ s. put_lt i.mem _ 4 _)

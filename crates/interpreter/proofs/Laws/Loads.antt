@@ -5,7 +5,7 @@ use Rattle.interpreter.specs.Words.{word, sext}
 use Rattle.interpreter.specs.declared.effect.Rules.{Rules}
 use Rattle.interpreter.specs.declared.effect.Rules.TheVariants.{Interpreter, Manual}
 use Rattle.interpreter.proofs.Laws.Words.{by_same}
-use Rattle.interpreter.specs.Loads.{word_at, lwl, lwr, ldr}
+use Rattle.interpreter.specs.Loads.{part_at, lwl, lwr, ldr}
 use Rattle.interpreter.proofs.Laws.Shifts.{raised_word, raised_word_lem, raised_word_lt, merged, kept_is, merged_is, merged_lt}
 use Rattle.interpreter.proofs.Laws.Bytes.{big_end, big_start, word_high, word_low}
 use Rattle.interpreter.proofs.Laws.Bitwise.{or_is}
@@ -29,7 +29,7 @@ module _ (rules : Rules) (m o t : ℕ) where
   unfolding lwl
   lwl_low r = rw (r, big_end 8 (4 + o % 4) (4 - o % 4) m (omega arith), raised_word_lem (8 * (o % 4)) (4 - o % 4) (o % 4) refl (omega arith) m t)
 
-  pub lwl_word : rules ≡ Manual → (w : ℕ) → w ≡ word_at m o → sext 32 (raised_word (8 * (o % 4)) w t) ≡ lwl rules m o t
+  pub lwl_word : rules ≡ Manual → (w : ℕ) → w ≡ part_at 4 m o → sext 32 (raised_word (8 * (o % 4)) w t) ≡ lwl rules m o t
   unfolding lwl
   lwl_word r w e =
       let q = rw (div-add-mod' o 4) at (word_low m o (o % 4) (4 - o % 4) (omega arith)) in
@@ -45,7 +45,7 @@ module _ (rules : Rules) (m o t : ℕ) where
       rw (r, kept_is (8 * (o % 4) + 8) (o % 4 + 1) (omega arith) (word t) (omega arith))
       (ap (sext 32) (or_is (word (m / 2 ^ (24 - 8 * (o % 4)))) k (omega arith) (omega arith)))
 
-  pub lwr_word : rules ≡ Manual → (w : ℕ) → w ≡ word_at m o → sext 32 (merged (8 * (o % 4) + 8) (24 - 8 * (o % 4)) (word t) w) ≡ lwr rules m o t
+  pub lwr_word : rules ≡ Manual → (w : ℕ) → w ≡ part_at 4 m o → sext 32 (merged (8 * (o % 4) + 8) (24 - 8 * (o % 4)) (word t) w) ≡ lwr rules m o t
   unfolding lwr
   lwr_word r w e =
       rw (r, ← word_high m o (o % 4 + 1) (3 - o % 4) (omega arith), ← e)
