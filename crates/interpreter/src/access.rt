@@ -51,7 +51,11 @@ pub(crate) fn lbu(i: Ins) -> Effect
 pub(crate) fn lh(i: Ins) -> Effect
     ensures { result ≡ does (load LH) i }
 {
-    loading(i, 2, bits::sext::<16>(loads::part_at::<2>(i.mem, offset(i))))
+    loading(
+        i,
+        2,
+        bits::sext::<16>(loads::part_at::<2>(i.mem, offset(i))),
+    )
 }
 
 pub(crate) fn lhu(i: Ins) -> Effect
@@ -63,7 +67,11 @@ pub(crate) fn lhu(i: Ins) -> Effect
 pub(crate) fn lw(i: Ins) -> Effect
     ensures { result ≡ does (load LW) i }
 {
-    loading(i, 4, bits::sext::<32>(loads::part_at::<4>(i.mem, offset(i))))
+    loading(
+        i,
+        4,
+        bits::sext::<32>(loads::part_at::<4>(i.mem, offset(i))),
+    )
 }
 
 pub(crate) fn lwu(i: Ins) -> Effect
@@ -186,7 +194,10 @@ fn answering(i: Ins, stored: Result<u64, Refusal>) -> Effect
 pub(crate) fn sc(i: Ins) -> Effect
     ensures { result ≡ does (conditional SC) i }
 {
-    answering(i, loads::aligned(i, 4, stores::part_put::<4>(i.mem, offset(i), i.rt)))
+    answering(
+        i,
+        loads::aligned(i, 4, stores::part_put::<4>(i.mem, offset(i), i.rt)),
+    )
 }
 
 pub(crate) fn scd(i: Ins) -> Effect

@@ -137,13 +137,13 @@ fn leading_zeros(x: u64) -> u64
     u32::leading_zeros((x % 0x1_0000_0000) as u32) as u64
 }
 
-#[tactic(auto, unfolding(crate::specs::Alu::leading_ones32))]
 fn leading_ones(x: u64) -> u64
     ensures { result ≡ leading_ones32 x }
 {
-    u32::leading_zeros((0xffff_ffff - x % 0x1_0000_0000) as u32) as u64
+    leading_zeros(u64::MAX - x)
 }
 
+// Beside `leading_zeros`, and not one function over the width: each is a call of its own integer's method.
 fn double_leading_zeros(x: u64) -> u64
     ensures { result ≡ count_leading_zeros 64 x }
 {

@@ -144,7 +144,11 @@ impl Ins {
     pub(crate) fn rules(self) -> Rules
         ensures { result ≡ rules_of self.rules }
     {
-        if self.rules == 0 { Rules::Interpreter } else { Rules::Manual }
+        if self.rules == 0 {
+            Rules::Interpreter
+        } else {
+            Rules::Manual
+        }
     }
 
     // The same instruction with these eight bytes.

@@ -168,7 +168,8 @@ pub(crate) fn kept(i: Ins, w: Window, pages: &[u8], used: usize, key: u64) -> Op
     }
 }
 
-// A load or store of an instruction that has its eight bytes. Not `kept` again over the page that was found: that was slower.
+// A load or store of an instruction that has its eight bytes. A list beside `kept`: one list for both, taken again once the page
+// was found, was slower (docs/DECISIONS.md), and `kept` takes the bytes behind its jump by the table, so not from a parameter.
 #[tactic(auto, using(crate::proofs::Laws::Frequent::agrees_same, crate::proofs::Laws::Frequent::agrees_none), unfolding(crate::specs::OpcodeMap::find, crate::specs::OpcodeMap::found, crate::specs::OpcodeMap::decode_by, crate::specs::OpcodeMap::by_opcode, crate::specs::OpcodeMap::memory, crate::specs::OpcodeMap::jumps, crate::specs::OpcodeMap::branches, crate::specs::OpcodeMap::immediates, crate::specs::OpcodeMap::loads, crate::specs::OpcodeMap::stores))]
 pub(crate) fn elsewhere(i: Ins, op: u64) -> Option<Change>
     ensures { Agrees result (does (decode_by op i.word) i) }
