@@ -1,6 +1,6 @@
 -- What an instruction and a step leave is within 64 bits, and an instruction by itself is refused only with 2 to 7.
 use Rattle.std.specs.Prelude.{Result, Ok, Err, IfSome}
-use Rattle.std.proofs.Common.{◌≡◌, ℕ, zero, suc, ◌+◌, ◌-◌, ◌*◌, ◌/◌, ◌%◌, ◌^◌, ◌<◌, ◌≤◌, min, max, Bool, true, false, cond, not, ◌&&◌, eqb, ltb, lt_of_lt_of_le, lt_of_le_of_lt, mod-lt, div-le_self, arith, lit<, lit≤, pow_pos, pow_mono, shr_lt}
+use Rattle.std.proofs.Common.{◌≡◌, ℕ, zero, suc, ◌+◌, ◌-◌, ◌*◌, ◌/◌, ◌%◌, ◌^◌, ◌<◌, ◌≤◌, min, max, Bool, true, false, cond, not, eqb, ltb, lt_of_lt_of_le, lt_of_le_of_lt, mod-lt, div-le_self, arith, lit<, lit≤, pow_pos, pow_mono, shr_lt}
 use native.Mathlib.Nat.{mod-le, pow-le-pow_right}
 use lib.Count.{count_leading_zeros, leading_le}
 use lib.Pow.{shr_le}

@@ -1,6 +1,6 @@
 -- What the step needs to know of the kernel: the register that it writes is one, when it calls, and that the touched address is a doubleword's.
 use Rattle.std.specs.Prelude.{Result, Ok, Err}
-use Rattle.std.proofs.Common.{◌≡◌, ℕ, ◌*◌, ◌/◌, ◌%◌, ◌<◌, Bool, true, false, cond, not, ◌&&◌, eqb, sym, refl, ap, ◌∙◌, mod-lt, arith, lit<, eq-eqb, Option, Some, None}
+use Rattle.std.proofs.Common.{◌≡◌, ℕ, ◌*◌, ◌/◌, ◌%◌, ◌<◌, Bool, true, false, cond, not, eqb, sym, refl, ap, ◌∙◌, mod-lt, arith, lit<, eq-eqb, Option, Some, None}
 use Rattle.interpreter.specs.Isa.{rt_of, rd_of, HiLo, MTHI, MTLO, MULT, MULTU, DMULT, DMULTU, DIV, DIVU, DDIV, DDIVU, Conditional, SC, SCD, Branch, BEQ, BNE, BLEZ, BGTZ, BLTZ, BGEZ, BGEZAL, Jump, J, JAL, JR, JALR, Other, MOVZ, MOVN, SYNC, SYSCALL, Instruction, alu, imm, hilo, load, store, conditional, branch, jump, other, reserved, reserved_branch}
 use Rattle.interpreter.specs.OpcodeMap.{decode}
 use Rattle.interpreter.specs.Effects.{changes, storing, going, to_register, Effect}

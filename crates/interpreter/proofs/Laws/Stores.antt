@@ -1,5 +1,5 @@
 -- What the code of SWL, SWR, SDL and SDR computes is what they store.
-use Rattle.std.proofs.Common.{◌≡◌, ℕ, ◌+◌, ◌-◌, ◌*◌, ◌/◌, ◌%◌, ◌^◌, ◌<◌, ◌≤◌, false, refl, ◌∙◌, add-zero, mod-eq_of_lt, add_comm, div-add-mod', arith, shl_exact, le-ltb, lt-ltb, eq-eqb, ne_eqb}
+use Rattle.std.proofs.Common.{◌≡◌, ℕ, ◌+◌, ◌-◌, ◌*◌, ◌/◌, ◌%◌, ◌^◌, ◌<◌, ◌≤◌, false, refl, ◌∙◌, add-zero, mod-eq_of_lt, add_comm, div-add-mod', arith, shl_exact, le-ltb, lt-ltb}
 use lib.Bits.{bit_or}
 use Rattle.interpreter.specs.Words.{word}
 use Rattle.interpreter.specs.declared.effect.Rules.{Rules}
