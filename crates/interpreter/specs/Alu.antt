@@ -1,14 +1,15 @@
 -- Results of registers and immediates, an instruction a line.
 use Rattle.std.specs.Prelude.{ℕ, ◌+◌, ◌-◌, ◌*◌, ◌/◌, ◌%◌, ◌^◌, cond, ◌==◌, nat_lt, Option, Some, None}
 use Rattle.std.specs.Int.Count.{count_leading_zeros}
-use Rattle.interpreter.specs.Words.{by_rules, word, plus, minus, sext, sign_extend, bit, less, and, or, xor}
+use Rattle.interpreter.specs.Words.{rules_of, by_rules, word, plus, minus, sext, sign_extend, bit, less, and, or, xor}
 use Rattle.interpreter.specs.Isa.{shamt_of, imm_of, Alu, SLL, SRL, SRA, SLLV, SRLV, SRAV, DSLL, DSRL, DSRA, DSLL32, DSRL32, DSRA32, DSLLV, DSRLV, DSRAV, ADD, ADDU, SUB, SUBU, DADD, DADDU, DSUB, DSUBU, AND, OR, XOR, NOR, SLT, SLTU, MFHI, MFLO, MUL, CLZ, CLO, DCLZ, Imm, ADDI, ADDIU, SLTI, SLTIU, ANDI, ORI, XORI, LUI, DADDI, DADDIU}
 use Rattle.interpreter.specs.declared.effect.Ins.{Ins}
+use Rattle.interpreter.specs.declared.effect.Rules.{Rules}
 
 -- ---- shifts of the low word by s, below 32; right shifts never rotate
 
 -- rules 0 sign-extends the unreduced product, rules 1 its low word
-unfoldable pub shift_left : ℕ → ℕ → ℕ → ℕ
+unfoldable pub shift_left : Rules → ℕ → ℕ → ℕ
 shift_left rules x s = by_rules rules (sign_extend (word x * 2 ^ s) 32) (sext 32 (word x * 2 ^ s))
 
 unfoldable pub shift_right : ℕ → ℕ → ℕ
@@ -19,7 +20,7 @@ unfoldable pub shift_signed : ℕ → ℕ → ℕ
 shift_signed x s = sext (32 - s) (word x / 2 ^ s)
 
 -- SRAV: rules 0 gives 0 when rs mod 64 = 32
-unfoldable pub shift_signed_by : ℕ → ℕ → ℕ → ℕ
+unfoldable pub shift_signed_by : Rules → ℕ → ℕ → ℕ
 shift_signed_by rules x y = by_rules rules (cond (y % 64 == 32) 0 (shift_signed x (y % 32))) (shift_signed x (y % 32))
 
 -- ---- shifts of the doubleword by s, below 64
@@ -40,7 +41,7 @@ unfoldable pub sum : ℕ → ℕ → ℕ
 sum x y = sext 32 (x + y)
 
 -- rules 0 sign-extends the 64-bit difference, rules 1 its low word
-unfoldable pub difference : ℕ → ℕ → ℕ → ℕ
+unfoldable pub difference : Rules → ℕ → ℕ → ℕ
 difference rules x y = by_rules rules (sign_extend (minus x y) 32) (sext 32 (minus x y))
 
 unfoldable pub mul : ℕ → ℕ → ℕ
@@ -60,12 +61,12 @@ leading_ones32 x = count_leading_zeros 32 (2 ^ 32 - 1 - word x)
 -- ---- the results
 
 unfoldable pub result : Alu → Ins → ℕ
-result SLL i = shift_left i.rules i.rt (shamt_of i.word)
+result SLL i = shift_left (rules_of i.rules) i.rt (shamt_of i.word)
 result SRL i = shift_right i.rt (shamt_of i.word)
 result SRA i = shift_signed i.rt (shamt_of i.word)
-result SLLV i = shift_left i.rules i.rt (i.rs % 32)
+result SLLV i = shift_left (rules_of i.rules) i.rt (i.rs % 32)
 result SRLV i = shift_right i.rt (i.rs % 32)
-result SRAV i = shift_signed_by i.rules i.rt i.rs
+result SRAV i = shift_signed_by (rules_of i.rules) i.rt i.rs
 result DSLL i = double_left i.rt (shamt_of i.word)
 result DSRL i = double_right i.rt (shamt_of i.word)
 result DSRA i = double_signed i.rt (shamt_of i.word)
@@ -77,8 +78,8 @@ result DSRLV i = double_right i.rt (i.rs % 64)
 result DSRAV i = double_signed i.rt (i.rs % 64)
 result ADD i = sum i.rs i.rt
 result ADDU i = sum i.rs i.rt
-result SUB i = difference i.rules i.rs i.rt
-result SUBU i = difference i.rules i.rs i.rt
+result SUB i = difference (rules_of i.rules) i.rs i.rt
+result SUBU i = difference (rules_of i.rules) i.rs i.rt
 result DADD i = plus i.rs i.rt
 result DADDU i = plus i.rs i.rt
 result DSUB i = minus i.rs i.rt

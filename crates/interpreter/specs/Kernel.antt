@@ -1,6 +1,6 @@
 -- The kernel: what each instruction does, and which eight bytes it touches.
 use Rattle.std.specs.Prelude.{ℕ, ◌+◌, ◌*◌, ◌/◌, ◌%◌, ◌^◌, Bool, cond, not, ◌||◌, ◌==◌, Result, Ok, Err, Option, Some, None}
-use Rattle.interpreter.specs.Words.{plus, negative, sext}
+use Rattle.interpreter.specs.Words.{rules_of, by_rules, plus, negative, sext}
 use Rattle.interpreter.specs.Isa.{rd_of, imm_of, target_of, Branch, BEQ, BNE, BLEZ, BGTZ, BLTZ, BGEZ, BGEZAL, Jump, J, JAL, JR, JALR, Instruction, alu, imm, hilo, load, store, conditional, branch, jump, Other, MOVZ, MOVN, SYNC, SYSCALL, other, reserved, reserved_branch}
 use Rattle.interpreter.specs.OpcodeMap.{decode}
 use Rattle.interpreter.specs.Effects.{Effect, to_register, to_rd, to_rt, storing, going}
@@ -67,7 +67,7 @@ after f (Err n) = Err (Refused n)
 unfoldable pub does_other : Other → Ins → Effect
 does_other MOVZ i = Ok (cond (i.rt == 0) (to_rd i i.rs) (to_register i 0 0))
 does_other MOVN i = Ok (cond (not (i.rt == 0)) (to_rd i i.rs) (to_register i 0 0))
-does_other SYNC i = Ok (cond (i.rules == 0) (to_rd i i.rs) (to_register i 0 0))
+does_other SYNC i = Ok (by_rules (rules_of i.rules) (to_rd i i.rs) (to_register i 0 0))
 does_other SYSCALL i = Err Call
 
 unfoldable pub does : Instruction → Ins → Effect

@@ -1,10 +1,17 @@
 -- Numbers of 64 bits: words, sign extensions, orders, bits and signed results.
 use Rattle.std.specs.Prelude.{ℕ, zero, suc, ◌+◌, ◌-◌, ◌*◌, ◌/◌, ◌%◌, ◌^◌, min, max, Bool, true, false, cond, not, ◌==◌, nat_le, nat_lt}
 use Rattle.std.specs.Bool.{beq}
+use Rattle.interpreter.specs.declared.effect.Rules.{Rules}
+use Rattle.interpreter.specs.declared.effect.Rules.TheVariants.{Interpreter, Manual}
 
--- under rules 0 the first, else the second
-abbrev pub by_rules : ℕ → ℕ → ℕ → ℕ
-by_rules rules x y = cond (rules == 0) x y
+-- the rules that a number names: 0 the interpreter's, every other the manual's
+abbrev pub rules_of : ℕ → Rules
+rules_of n = cond (n == 0) Interpreter Manual
+
+-- what the interpreter's rules give, and what the manual's: every difference between the two is a `by_rules`
+abbrev pub by_rules : {A : Type 0} → Rules → A → A → A
+by_rules Interpreter x y = x
+by_rules Manual x y = y
 
 abbrev pub word : ℕ → ℕ
 word x = x % 2 ^ 32

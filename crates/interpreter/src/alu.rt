@@ -6,20 +6,20 @@ ghost use Rattle.interpreter.specs.Words.{bit, and, or, xor};
 ghost use Rattle.interpreter.specs.Alu.{shift_left, shift_right, shift_signed, shift_signed_by, double_left, double_right, sum, difference, mul, nor, leading_zeros32, leading_ones32, known, known_imm};
 
 use crate::bits;
-use crate::effect::Ins;
+use crate::effect::{Ins, Rules};
 use crate::isa::{IType, Opcode, RType, Special2Function, SpecialFunction};
 
 // Rules 0 sign-extends the unreduced product.
 #[tactic(auto, unfolding(crate::specs::Alu::shift_left))]
-pub(crate) fn shift_left(rules: u8, x: u64, s: u64) -> u64
+pub(crate) fn shift_left(rules: Rules, x: u64, s: u64) -> u64
     requires { s < 32 }
     ensures { result ≡ shift_left rules x s }
 {
     let p = (x % 0x1_0000_0000) << s;
-    if rules == 0 {
-        return bits::sign_extend(p, 32);
+    match rules {
+        Rules::Interpreter => bits::sign_extend(p, 32),
+        Rules::Manual => bits::sext::<32>(p),
     }
-    bits::sext::<32>(p)
 }
 
 #[tactic(auto, unfolding(crate::specs::Alu::shift_right))]
@@ -40,16 +40,18 @@ pub(crate) fn shift_signed(x: u64, s: u64) -> u64
 
 // SRAV: rules 0 gives 0 when rs mod 64 = 32.
 #[tactic(auto, unfolding(crate::specs::Alu::shift_signed_by))]
-pub(crate) fn shift_signed_by(rules: u8, x: u64, y: u64) -> u64
+pub(crate) fn shift_signed_by(rules: Rules, x: u64, y: u64) -> u64
     ensures { result ≡ shift_signed_by rules x y }
 {
-    if rules != 0 {
-        return shift_signed(x, y % 32);
+    match rules {
+        Rules::Interpreter => {
+            if y % 64 == 32 {
+                return 0;
+            }
+            shift_signed(x, y % 32)
+        }
+        Rules::Manual => shift_signed(x, y % 32),
     }
-    if y % 64 == 32 {
-        return 0;
-    }
-    shift_signed(x, y % 32)
 }
 
 #[tactic(auto, unfolding(crate::specs::Alu::double_left))]
@@ -77,14 +79,14 @@ pub(crate) fn sum(x: u64, y: u64) -> u64
 
 // Rules 0 sign-extends the 64-bit difference.
 #[tactic(auto, unfolding(crate::specs::Alu::difference))]
-pub(crate) fn difference(rules: u8, x: u64, y: u64) -> u64
+pub(crate) fn difference(rules: Rules, x: u64, y: u64) -> u64
     ensures { result ≡ difference rules x y }
 {
     let d = bits::minus(x, y);
-    if rules == 0 {
-        return bits::sign_extend(d, 32);
+    match rules {
+        Rules::Interpreter => bits::sign_extend(d, 32),
+        Rules::Manual => bits::sext::<32>(d),
     }
-    bits::sext::<32>(d)
 }
 
 #[tactic(auto, unfolding(crate::specs::Alu::mul))]
@@ -135,13 +137,13 @@ fn leading_zeros(x: u64) -> u64
     u32::leading_zeros((x % 0x1_0000_0000) as u32) as u64
 }
 
-#[tactic(auto, unfolding(crate::specs::Alu::leading_ones32))]
 fn leading_ones(x: u64) -> u64
     ensures { result ≡ leading_ones32 x }
 {
-    u32::leading_zeros((0xffff_ffff - x % 0x1_0000_0000) as u32) as u64
+    leading_zeros(u64::MAX - x)
 }
 
+// Beside `leading_zeros`, and not one function over the width: each is a call of its own integer's method.
 fn double_leading_zeros(x: u64) -> u64
     ensures { result ≡ count_leading_zeros 64 x }
 {
@@ -154,12 +156,12 @@ pub(crate) fn shifts(i: Ins, f: u64) -> Option<u64>
 {
     let s = RType::decode(i.word).shamt;
     match f {
-        SpecialFunction::SLL => Some(shift_left(i.rules, i.rt, s)),
+        SpecialFunction::SLL => Some(shift_left(i.rules(), i.rt, s)),
         SpecialFunction::SRL => Some(shift_right(i.rt, s)),
         SpecialFunction::SRA => Some(shift_signed(i.rt, s)),
-        SpecialFunction::SLLV => Some(shift_left(i.rules, i.rt, i.rs % 32)),
+        SpecialFunction::SLLV => Some(shift_left(i.rules(), i.rt, i.rs % 32)),
         SpecialFunction::SRLV => Some(shift_right(i.rt, i.rs % 32)),
-        SpecialFunction::SRAV => Some(shift_signed_by(i.rules, i.rt, i.rs)),
+        SpecialFunction::SRAV => Some(shift_signed_by(i.rules(), i.rt, i.rs)),
         SpecialFunction::DSLLV => Some(double_left(i.rt, i.rs % 64)),
         SpecialFunction::DSRLV => Some(double_right(i.rt, i.rs % 64)),
         SpecialFunction::DSRAV => Some(bits::shift_signed(i.rt, i.rs % 64)),
@@ -183,8 +185,8 @@ pub(crate) fn sums(i: Ins, f: u64) -> Option<u64>
         SpecialFunction::MFLO => Some(i.lo),
         SpecialFunction::ADD => Some(sum(i.rs, i.rt)),
         SpecialFunction::ADDU => Some(sum(i.rs, i.rt)),
-        SpecialFunction::SUB => Some(difference(i.rules, i.rs, i.rt)),
-        SpecialFunction::SUBU => Some(difference(i.rules, i.rs, i.rt)),
+        SpecialFunction::SUB => Some(difference(i.rules(), i.rs, i.rt)),
+        SpecialFunction::SUBU => Some(difference(i.rules(), i.rs, i.rt)),
         SpecialFunction::DADD => Some(bits::plus(i.rs, i.rt)),
         SpecialFunction::DADDU => Some(bits::plus(i.rs, i.rt)),
         SpecialFunction::DSUB => Some(bits::minus(i.rs, i.rt)),

@@ -3,7 +3,7 @@ ghost use Rattle.std.specs.Prelude.{◌≡◌, ◌<◌, ◌≤◌};
 ghost use Rattle.interpreter.specs.Words.{plus, minus, sext, sign_extend, negative, less};
 ghost use Rattle.interpreter.specs.Alu.{double_signed};
 
-// The Rust's sign_extend (utils): any index, counts modulo 64, and every bit from index - 1 up is a sign.
+/// The Rust's sign_extend (utils), for any index: it counts modulo 64, 0 gives 0, and every bit from index - 1 up is a sign.
 #[tactic(auto, using(crate::proofs::Laws::Powers::one_shl, crate::proofs::Laws::Powers::pow_small, crate::proofs::Laws::Words::extend_none, crate::proofs::Laws::Words::extend_low, crate::proofs::Laws::Words::extend_high))]
 pub fn sign_extend(x: u64, index: u64) -> u64
     ensures { result ≡ sign_extend x index }

@@ -1,11 +1,12 @@
 // The kernel: one pure function from an instruction and all that it reads to what it does (cpu.rs).
 ghost use Rattle.std.specs.Prelude.{◌≡◌, if◌then◌else◌};
+ghost use Rattle.interpreter.specs.Words.{rules_of, by_rules};
 ghost use Rattle.interpreter.specs.Isa.{hilo, store, conditional, reserved, reserved_branch};
 ghost use Rattle.interpreter.specs.OpcodeMap.{find, found, hilos, registers, special, special2, regimm, stores, conditionals, memory, by_opcode, decode_by, accesses};
 ghost use Rattle.interpreter.specs.Effects.{to_rd, to_register};
 ghost use Rattle.interpreter.specs.Kernel.{does, kernel_def, touch_def};
 
-use crate::effect::{Change, Effect, Ins, Refusal, Stop};
+use crate::effect::{Change, Effect, Ins, Refusal, Rules, Stop};
 use crate::hi_lo::Pair;
 use crate::isa::{IType, Opcode, RType, RegImmFunction, SpecialFunction};
 use crate::{access, alu, bits, branches, hi_lo};
@@ -39,7 +40,7 @@ fn special_hi_lo(i: Ins, f: u64) -> Effect
         SpecialFunction::MULTU => Ok(i.to_hi_lo(hi_lo::multu(i.rs, i.rt))),
         SpecialFunction::DIV => i.divide_words(),
         SpecialFunction::DIVU => i.divide_words_unsigned(),
-        SpecialFunction::DMULT => Ok(i.to_hi_lo(hi_lo::dmult(i.rules, i.rs, i.rt))),
+        SpecialFunction::DMULT => Ok(i.to_hi_lo(hi_lo::dmult(i.rules(), i.rs, i.rt))),
         SpecialFunction::DMULTU => Ok(i.to_hi_lo(hi_lo::dmultu(i.rs, i.rt))),
         SpecialFunction::DDIV => i.divide(),
         SpecialFunction::DDIVU => i.divide_unsigned(),
@@ -57,6 +58,16 @@ pub(crate) fn move_if(i: Ins, moves: bool) -> Change
     i.to_register(0, 0)
 }
 
+// SYNC: rules 0 writes rs to rd.
+pub(crate) fn sync(i: Ins) -> Change
+    ensures { result ≡ by_rules (rules_of i.rules) (to_rd i i.rs) (to_register i 0 0) }
+{
+    match i.rules() {
+        Rules::Interpreter => i.to_rd(i.rs),
+        Rules::Manual => i.to_register(0, 0),
+    }
+}
+
 #[tactic(auto, unfolding(crate::specs::OpcodeMap::find, crate::specs::OpcodeMap::found, crate::specs::OpcodeMap::special, crate::specs::OpcodeMap::jump_registers, crate::specs::OpcodeMap::others, crate::specs::Kernel::jumping, crate::specs::Kernel::does_other, crate::specs::Kernel::does))]
 fn special(i: Ins, f: u64) -> Effect
     ensures { result ≡ does (special f) i }
@@ -67,7 +78,7 @@ fn special(i: Ins, f: u64) -> Effect
         SpecialFunction::MOVZ => Ok(move_if(i, i.rt == 0)),
         SpecialFunction::MOVN => Ok(move_if(i, i.rt != 0)),
         SpecialFunction::SYSCALL => Err(Stop::Call),
-        SpecialFunction::SYNC => Ok(move_if(i, i.rules == 0)),
+        SpecialFunction::SYNC => Ok(sync(i)),
         _ => special_hi_lo(i, f),
     }
 }
@@ -224,7 +235,8 @@ fn accesses(op: u64) -> bool
     }
 }
 
-// The eight bytes that an instruction touches, whose base register holds base.
+/// The address of the aligned eight bytes that a load or store touches, where its base register holds `base`; None of any other
+/// instruction.
 #[tactic(auto, using(crate::proofs::Laws::Touches::touches_by), unfolding(crate::specs::Kernel::touch_def))]
 pub fn touch(word: u64, base: u64) -> Option<u64>
     ensures { result ≡ touch_def word base }
@@ -236,7 +248,7 @@ pub fn touch(word: u64, base: u64) -> Option<u64>
     None
 }
 
-// What an instruction does. A misaligned pc comes before everything else.
+/// What an instruction does, for every input and every rules number. A misaligned pc is refused before everything else.
 #[tactic(auto, unfolding(crate::specs::Kernel::kernel_def))]
 pub fn kernel(i: Ins) -> Effect
     ensures { result ≡ kernel_def i }

@@ -1,15 +1,26 @@
 // What an instruction reads, and what it does.
 ghost use Rattle.std.specs.Prelude.{◌≡◌, ◌≢◌, IfOk, IfErr};
 ghost use Rattle.interpreter.specs.declared.effect.Stop.TheVariants.{Refused};
+ghost use Rattle.interpreter.specs.Words.{rules_of};
 ghost use Rattle.interpreter.specs.Effects.{seeing, refusal_number, changes, to_register, to_rd, to_rt, storing, going};
 
 use crate::bits;
 use crate::isa::{IType, RType};
 use std::fmt;
 
+/// The rules that decide where the Rust and the MIPS manual part.
+#[derive(Clone, Copy, Debug, PartialEq, Eq)]
+pub enum Rules {
+    /// Rules 0: what the Rust does.
+    Interpreter,
+    /// Rules 1: what the MIPS manual says.
+    Manual,
+}
+
 /// An instruction with all that it reads. `mem` is the eight bytes at the touched address, and 0 where none is touched.
 #[derive(Clone, Copy, Debug, PartialEq, Eq)]
 pub struct Ins {
+    // A number: `kernel` promises for every byte, and a state's byte above 1 is refused with 1 or 22.
     pub rules: u8,
     pub word: u64,
     pub rs: u64,
@@ -37,31 +48,31 @@ pub struct Change {
 /// Why a step is refused (document 01, "Numbers a refusal carries"); an instruction by itself only with 2 to 7.
 #[derive(Clone, Copy, Debug, PartialEq, Eq)]
 pub enum Refusal {
-    // 1: rules, used pages, hint length or recording buffer out of bounds.
+    /// 1: rules, used pages, hint length or recording buffer out of bounds.
     BadMachine,
-    // 2
+    /// 2
     PcMisaligned,
-    // 3: no such code, or BEQL.
+    /// 3: no such code, or BEQL.
     Reserved,
-    // 4: a jump or branch in a delay slot.
+    /// 4: a jump or branch in a delay slot.
     DelaySlot,
-    // 5
+    /// 5
     DivideByZero,
-    // 6: rules 0, the least number by -1.
+    /// 6: rules 0, the least number by -1.
     Overflow,
-    // 7: rules 1, an access off its alignment.
+    /// 7: rules 1, an access off its alignment.
     AddressError,
-    // 8: a store needs an absent page and all records are used.
+    /// 8: a store needs an absent page and all records are used.
     MemoryFull,
-    // 9: output or hint bytes exceed their room.
+    /// 9: output or hint bytes exceed their room.
     NoRoom,
-    // 10: no input record with the key, or one that leaves the data.
+    /// 10: no input record with the key, or one that leaves the data.
     NoInput,
-    // 11: the input offset is past the end.
+    /// 11: the input offset is past the end.
     InputOffset,
-    // 12: a hint shorter than its announced length.
+    /// 12: a hint shorter than its announced length.
     HintShort,
-    // 13: a complete hint that is not UTF-8.
+    /// 13: a complete hint that is not UTF-8.
     HintText,
 }
 
@@ -142,7 +153,7 @@ impl TryFrom<u8> for Refusal {
 #[derive(Clone, Copy, Debug, PartialEq, Eq)]
 pub enum Stop {
     Refused(Refusal),
-    // SYSCALL: the step executes it.
+    /// SYSCALL: the step executes it.
     Call,
 }
 
@@ -158,6 +169,17 @@ impl From<Refusal> for Stop {
 pub type Effect = Result<Change, Stop>;
 
 impl Ins {
+    // The rules that the number names: 0 the interpreter's, every other the manual's.
+    pub(crate) fn rules(self) -> Rules
+        ensures { result ≡ rules_of self.rules }
+    {
+        if self.rules == 0 {
+            Rules::Interpreter
+        } else {
+            Rules::Manual
+        }
+    }
+
     // The same instruction with these eight bytes.
     #[tactic(auto, unfolding(crate::specs::Effects::seeing))]
     pub(crate) fn seeing(self, mem: u64) -> Ins

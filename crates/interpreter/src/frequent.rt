@@ -1,5 +1,6 @@
 // The instructions that programs are mostly made of, found by one table. A run tries these first: what is not here, and what is
-// refused, is left to the kernel and the step.
+// refused, is left to the kernel and the step. A list of its own beside the kernel's (cpu.rt): called, the kernel costs some 60
+// instructions a step more, since it is too large to be inlined at more than one place.
 ghost use Rattle.std.specs.Prelude.{◌≡◌, ◌/◌, Some};
 ghost use Rattle.interpreter.specs.Words.{sext};
 ghost use Rattle.interpreter.specs.Isa.{shamt_of, imm_of, rt_of};
@@ -40,26 +41,26 @@ fn special(i: Ins, key: u64) -> Option<Change>
     ensures { Quiet result i }
 {
     match key {
-        Key::SLL => Some(i.to_rd(alu::shift_left(i.rules, i.rt, shamt(i)))),
+        Key::SLL => Some(i.to_rd(alu::shift_left(i.rules(), i.rt, shamt(i)))),
         Key::SRL => Some(i.to_rd(alu::shift_right(i.rt, shamt(i)))),
         Key::SRA => Some(i.to_rd(alu::shift_signed(i.rt, shamt(i)))),
-        Key::SLLV => Some(i.to_rd(alu::shift_left(i.rules, i.rt, i.rs % 32))),
+        Key::SLLV => Some(i.to_rd(alu::shift_left(i.rules(), i.rt, i.rs % 32))),
         Key::SRLV => Some(i.to_rd(alu::shift_right(i.rt, i.rs % 32))),
-        Key::SRAV => Some(i.to_rd(alu::shift_signed_by(i.rules, i.rt, i.rs))),
+        Key::SRAV => Some(i.to_rd(alu::shift_signed_by(i.rules(), i.rt, i.rs))),
         Key::JR => i.going(0, 0, i.rs).ok(),
         Key::JALR => i.going(RType::decode(i.word).rd, i.link(), i.rs).ok(),
         Key::MOVZ => Some(cpu::move_if(i, i.rt == 0)),
         Key::MOVN => Some(cpu::move_if(i, i.rt != 0)),
-        Key::SYNC => Some(cpu::move_if(i, i.rules == 0)),
+        Key::SYNC => Some(cpu::sync(i)),
         Key::MFHI => Some(i.to_rd(i.hi)),
         Key::MFLO => Some(i.to_rd(i.lo)),
         Key::DSLLV => Some(i.to_rd(alu::double_left(i.rt, i.rs % 64))),
         Key::DSRLV => Some(i.to_rd(alu::double_right(i.rt, i.rs % 64))),
         Key::DSRAV => Some(i.to_rd(bits::shift_signed(i.rt, i.rs % 64))),
-        Key::DMULT => Some(i.to_hi_lo(hi_lo::dmult(i.rules, i.rs, i.rt))),
+        Key::DMULT => Some(i.to_hi_lo(hi_lo::dmult(i.rules(), i.rs, i.rt))),
         Key::DMULTU => Some(i.to_hi_lo(hi_lo::dmultu(i.rs, i.rt))),
         Key::ADDU => Some(i.to_rd(alu::sum(i.rs, i.rt))),
-        Key::SUBU => Some(i.to_rd(alu::difference(i.rules, i.rs, i.rt))),
+        Key::SUBU => Some(i.to_rd(alu::difference(i.rules(), i.rs, i.rt))),
         Key::AND => Some(i.to_rd(alu::and(i.rs, i.rt))),
         Key::OR => Some(i.to_rd(alu::or(i.rs, i.rt))),
         Key::XOR => Some(i.to_rd(alu::xor(i.rs, i.rt))),
@@ -167,7 +168,8 @@ pub(crate) fn kept(i: Ins, w: Window, pages: &[u8], used: usize, key: u64) -> Op
     }
 }
 
-// A load or store of an instruction that has its eight bytes.
+// A load or store of an instruction that has its eight bytes. A list beside `kept`: one list for both, taken again once the page
+// was found, was slower (docs/DECISIONS.md), and `kept` takes the bytes behind its jump by the table, so not from a parameter.
 #[tactic(auto, using(crate::proofs::Laws::Frequent::agrees_same, crate::proofs::Laws::Frequent::agrees_none), unfolding(crate::specs::OpcodeMap::find, crate::specs::OpcodeMap::found, crate::specs::OpcodeMap::decode_by, crate::specs::OpcodeMap::by_opcode, crate::specs::OpcodeMap::memory, crate::specs::OpcodeMap::jumps, crate::specs::OpcodeMap::branches, crate::specs::OpcodeMap::immediates, crate::specs::OpcodeMap::loads, crate::specs::OpcodeMap::stores))]
 pub(crate) fn elsewhere(i: Ins, op: u64) -> Option<Change>
     ensures { Agrees result (does (decode_by op i.word) i) }

@@ -5,10 +5,11 @@ ghost use Rattle.interpreter.specs.Isa.{DIV, DIVU, DDIV, DDIVU};
 ghost use Rattle.interpreter.specs.HiLo.{words, negated, mult, multu, dmult, dmultu, div, divu, ddiv, ddivu, overflows, to_hi_lo, hi_lo};
 
 use crate::bits;
-use crate::effect::{Change, Effect, Ins, Refusal, Stop};
+use crate::effect::{Change, Effect, Ins, Refusal, Rules, Stop};
 use crate::isa::RType;
 
-#[derive(Clone, Copy)]
+/// What goes to hi and lo, of 64 bits each.
+#[derive(Clone, Copy, Debug, PartialEq, Eq)]
 pub struct Pair {
     pub hi: u64,
     pub lo: u64,
@@ -98,17 +99,18 @@ fn negate(p: Pair) -> Pair
 
 // Rules 0 is unsigned.
 #[tactic(auto, using(crate::proofs::Laws::Products::product_minus, crate::proofs::Laws::Products::product_plus), unfolding(crate::specs::HiLo::dmult))]
-pub(crate) fn dmult(rules: u8, x: u64, y: u64) -> Pair
+pub(crate) fn dmult(rules: Rules, x: u64, y: u64) -> Pair
     ensures { result ≡ dmult rules x y }
 {
-    if rules == 0 {
-        return dmultu(x, y);
-    }
-    let p = dmultu(magnitude::<64>(x), magnitude::<64>(y));
-    if bits::negative::<64>(x) != bits::negative::<64>(y) {
-        negate(p)
-    } else {
-        p
+    match rules {
+        Rules::Interpreter => dmultu(x, y),
+        Rules::Manual => {
+            let p = dmultu(magnitude::<64>(x), magnitude::<64>(y));
+            if bits::negative::<64>(x) != bits::negative::<64>(y) {
+                return negate(p);
+            }
+            p
+        }
     }
 }
 
@@ -129,18 +131,18 @@ pub(crate) fn div(x: u64, y: u64) -> Pair
 
 // Rules 0 doesn't sign-extend.
 #[tactic(auto, unfolding(crate::specs::HiLo::divu))]
-pub(crate) fn divu(rules: u8, x: u64, y: u64) -> Pair
+pub(crate) fn divu(rules: Rules, x: u64, y: u64) -> Pair
     requires { 0 < word y }
     ensures { result ≡ divu rules x y }
 {
     let r = x % 0x1_0000_0000 % (y % 0x1_0000_0000);
     let q = x % 0x1_0000_0000 / (y % 0x1_0000_0000);
-    if rules == 0 {
-        return Pair { hi: r, lo: q };
-    }
-    Pair {
-        hi: bits::sext::<32>(r),
-        lo: bits::sext::<32>(q),
+    match rules {
+        Rules::Interpreter => Pair { hi: r, lo: q },
+        Rules::Manual => Pair {
+            hi: bits::sext::<32>(r),
+            lo: bits::sext::<32>(q),
+        },
     }
 }
 
@@ -170,18 +172,20 @@ pub(crate) fn ddivu(x: u64, y: u64) -> Pair
 }
 
 // The least number of N bits by -1, which only rules 0 refuses.
-fn overflows<const N: u64>(rules: u8, x: u64, y: u64) -> bool
+fn overflows<const N: u64>(rules: Rules, x: u64, y: u64) -> bool
     requires { (0 < N) × (N ≤ 64) }
     ensures { result ≡ overflows N rules x y }
 {
-    if rules != 0 {
-        return false;
+    match rules {
+        Rules::Interpreter => {
+            let least = 1u64 << (N - 1);
+            if x != least {
+                return false;
+            }
+            y == least - 1 + least
+        }
+        Rules::Manual => false,
     }
-    let least = 1u64 << (N - 1);
-    if x != least {
-        return false;
-    }
-    y == least - 1 + least
 }
 
 impl Ins {
@@ -189,10 +193,10 @@ impl Ins {
     pub(crate) fn to_hi_lo(self, p: Pair) -> Change
         ensures { result ≡ to_hi_lo self p }
     {
-        if self.rules == 0 {
-            return self.changes(RType::decode(self.word).rd, 0, p.hi, p.lo);
+        match self.rules() {
+            Rules::Interpreter => self.changes(RType::decode(self.word).rd, 0, p.hi, p.lo),
+            Rules::Manual => self.changes(0, 0, p.hi, p.lo),
         }
-        self.changes(0, 0, p.hi, p.lo)
     }
 
     #[tactic(auto, unfolding(crate::specs::HiLo::hi_lo))]
@@ -204,7 +208,7 @@ impl Ins {
         if y == 0 {
             return Err(Stop::Refused(Refusal::DivideByZero));
         }
-        if overflows::<32>(self.rules, x, y) {
+        if overflows::<32>(self.rules(), x, y) {
             return Err(Stop::Refused(Refusal::Overflow));
         }
         Ok(self.to_hi_lo(div(self.rs, self.rt)))
@@ -217,7 +221,7 @@ impl Ins {
         if self.rt % 0x1_0000_0000 == 0 {
             return Err(Stop::Refused(Refusal::DivideByZero));
         }
-        Ok(self.to_hi_lo(divu(self.rules, self.rs, self.rt)))
+        Ok(self.to_hi_lo(divu(self.rules(), self.rs, self.rt)))
     }
 
     #[tactic(auto, unfolding(crate::specs::HiLo::hi_lo))]
@@ -227,7 +231,7 @@ impl Ins {
         if self.rt == 0 {
             return Err(Stop::Refused(Refusal::DivideByZero));
         }
-        if overflows::<64>(self.rules, self.rs, self.rt) {
+        if overflows::<64>(self.rules(), self.rs, self.rt) {
             return Err(Stop::Refused(Refusal::Overflow));
         }
         Ok(self.to_hi_lo(ddiv(self.rs, self.rt)))

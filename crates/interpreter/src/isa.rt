@@ -2,7 +2,8 @@
 ghost use Rattle.std.specs.Prelude.{◌≡◌};
 ghost use Rattle.interpreter.specs.Isa.{opcode_of, rs_of, rt_of, rd_of, shamt_of, funct_of, imm_of, target_of};
 
-#[derive(Clone, Copy)]
+/// Fields of an instruction of register operands: five of 5 bits, and the function field of 6.
+#[derive(Clone, Copy, Debug, PartialEq, Eq)]
 pub struct RType {
     pub rs: u64,
     pub rt: u64,
@@ -12,6 +13,7 @@ pub struct RType {
 }
 
 impl RType {
+    /// The fields of an instruction word; bits above the 32 are not looked at.
     pub fn decode(word: u64) -> RType
         ensures { result ≡ record { rs = rs_of word; rt = rt_of word; rd = rd_of word; shamt = shamt_of word; funct = funct_of word } }
     {
@@ -25,7 +27,8 @@ impl RType {
     }
 }
 
-#[derive(Clone, Copy)]
+/// Fields of an instruction with an immediate: two of 5 bits, and 16 bits without a sign.
+#[derive(Clone, Copy, Debug, PartialEq, Eq)]
 pub struct IType {
     pub rs: u64,
     pub rt: u64,
@@ -33,6 +36,7 @@ pub struct IType {
 }
 
 impl IType {
+    /// The fields of an instruction word; bits above the 32 are not looked at.
     pub fn decode(word: u64) -> IType
         ensures { result ≡ record { rs = rs_of word; rt = rt_of word; imm = imm_of word } }
     {
@@ -44,12 +48,14 @@ impl IType {
     }
 }
 
-#[derive(Clone, Copy)]
+/// The field of a jump: 26 bits, the target in words.
+#[derive(Clone, Copy, Debug, PartialEq, Eq)]
 pub struct JType {
     pub address: u64,
 }
 
 impl JType {
+    /// The field of an instruction word; bits above the 32 are not looked at.
     pub fn decode(word: u64) -> JType
         ensures { result ≡ record { address = target_of word } }
     {
@@ -59,13 +65,12 @@ impl JType {
     }
 }
 
-// Codes of the opcode field. BEQL is known, and always refused.
-#[derive(Clone, Copy)]
-pub struct Opcode {
-    pub code: u64,
-}
+/// Codes of the opcode field. BEQL is known, and always refused.
+// Codes are associated constants and no enum: document 01 names that form, and a code is compared as the number that a word holds.
+pub struct Opcode;
 
 impl Opcode {
+    /// The opcode field of an instruction word: its 6 highest bits.
     pub fn decode(word: u64) -> u64
         ensures { result ≡ opcode_of word }
     {
@@ -159,11 +164,8 @@ impl Opcode {
     pub const SD: u64 = 0x3f;
 }
 
-// Codes of the function field under SPECIAL.
-#[derive(Clone, Copy)]
-pub struct SpecialFunction {
-    pub code: u64,
-}
+/// Codes of the function field under SPECIAL.
+pub struct SpecialFunction;
 
 impl SpecialFunction {
     pub const SLL: u64 = 0x00;
@@ -261,11 +263,8 @@ impl SpecialFunction {
     pub const DSRA32: u64 = 0x3f;
 }
 
-// Codes of the function field under SPECIAL2. isa.rs has CLO and CLZ the other way round, and so has its loop.
-#[derive(Clone, Copy)]
-pub struct Special2Function {
-    pub code: u64,
-}
+/// Codes of the function field under SPECIAL2. isa.rs has CLO and CLZ the other way round, and so has its loop.
+pub struct Special2Function;
 
 impl Special2Function {
     pub const MUL: u64 = 0x02;
@@ -277,11 +276,8 @@ impl Special2Function {
     pub const DCLZ: u64 = 0x24;
 }
 
-// Codes of the rt field under REGIMM.
-#[derive(Clone, Copy)]
-pub struct RegImmFunction {
-    pub code: u64,
-}
+/// Codes of the rt field under REGIMM.
+pub struct RegImmFunction;
 
 impl RegImmFunction {
     pub const BLTZ: u64 = 0x00;

@@ -4,11 +4,9 @@ ghost use Rattle.interpreter.specs.Parts.{key_of};
 
 use crate::isa::{Opcode, RType, SpecialFunction};
 
-// The opcode field, and of SPECIAL, whose opcode is 0, the function field behind all opcodes.
-#[derive(Clone, Copy)]
-pub(crate) struct Key {
-    pub code: u64,
-}
+// The opcode field, and of SPECIAL, whose opcode is 0, the function field behind all opcodes. Its constants repeat those of
+// `SpecialFunction`, since one table for both fields wants them behind the opcodes.
+pub(crate) struct Key;
 
 impl Key {
     #[tactic(auto, unfolding(crate::specs::Parts::key_of))]

@@ -1,22 +1,24 @@
 -- What an instruction and a step leave is within 64 bits, and an instruction by itself is refused only with 2 to 7.
 use Rattle.std.specs.Prelude.{Result, Ok, Err, IfSome}
-use Rattle.std.proofs.Common.{◌≡◌, ℕ, zero, suc, ◌+◌, ◌-◌, ◌*◌, ◌/◌, ◌%◌, ◌^◌, ◌<◌, ◌≤◌, min, max, Bool, true, false, cond, not, ◌&&◌, eqb, ltb, lt_of_lt_of_le, lt_of_le_of_lt, mod-lt, div-le_self, arith, lit<, lit≤, pow_pos, pow_mono, shr_lt}
+use Rattle.std.proofs.Common.{◌≡◌, ℕ, zero, suc, ◌+◌, ◌-◌, ◌*◌, ◌/◌, ◌%◌, ◌^◌, ◌<◌, ◌≤◌, min, max, Bool, true, false, cond, not, eqb, ltb, lt_of_lt_of_le, lt_of_le_of_lt, mod-lt, div-le_self, arith, lit<, lit≤, pow_pos, pow_mono, shr_lt}
 use native.Mathlib.Nat.{mod-le, pow-le-pow_right}
 use lib.Count.{count_leading_zeros, leading_le}
 use lib.Pow.{shr_le}
 use Rattle.pages.specs.Bytes.{big}
 use Rattle.pages.proofs.Laws.Numbers.{bytes_bytes}
-use Rattle.interpreter.specs.Words.{word, plus, sext, sign_extend, less, bitwise, and, or, xor, magnitude, signed, quotient, remainder, product}
+use Rattle.interpreter.specs.Words.{rules_of, by_rules, word, plus, sext, sign_extend, less, bitwise, and, or, xor, magnitude, signed, quotient, remainder, product}
 use Rattle.interpreter.specs.Isa.{shamt_of, imm_of, rd_of, rt_of, Alu, SLL, SRL, SRA, SLLV, SRLV, SRAV, DSLL, DSRL, DSRA, DSLL32, DSRL32, DSRA32, DSLLV, DSRLV, DSRAV, ADD, ADDU, SUB, SUBU, DADD, DADDU, DSUB, DSUBU, AND, OR, XOR, NOR, SLT, SLTU, MFHI, MFLO, MUL, CLZ, CLO, DCLZ, Imm, ADDI, ADDIU, SLTI, SLTIU, ANDI, ORI, XORI, LUI, DADDI, DADDIU, HiLo, MTHI, MTLO, MULT, MULTU, DMULT, DMULTU, DIV, DIVU, DDIV, DDIVU, Load, LB, LBU, LH, LHU, LW, LWU, LL, LD, LLD, LWL, LWR, LDL, LDR, Store, SB, SH, SW, SD, SWL, SWR, SDL, SDR, Conditional, SC, SCD, Branch, BEQ, BNE, BLEZ, BGTZ, BLTZ, BGEZ, BGEZAL, Jump, J, JAL, JR, JALR, Other, MOVZ, MOVN, SYNC, SYSCALL, Instruction, alu, imm, hilo, load, store, conditional, branch, jump, other, reserved, reserved_branch}
 use Rattle.interpreter.specs.OpcodeMap.{decode}
 use Rattle.interpreter.specs.Effects.{refusal_number, changes, storing, going, to_register, Effect}
 use Rattle.interpreter.specs.Alu.{shift_left, shift_right, shift_signed, shift_signed_by, double_left, double_right, double_signed, sum, difference, mul, nor, leading_zeros32, leading_ones32, result, immediate}
 use Rattle.interpreter.specs.HiLo.{pair, doublewords, mult, multu, dmult, dmultu, div, divu, ddiv, ddivu, overflows, to_hi_lo, dividing, hi_lo}
-use Rattle.interpreter.specs.Loads.{offset_of, address_of, aligned, byte, byte_at, half_at, word_at, lwl, lwr, ldl, ldr, loaded}
-use Rattle.interpreter.specs.Stores.{sb, sh, sw, sd, swl, swr, sdl, sdr, stored, answering, conditionally}
+use Rattle.interpreter.specs.Loads.{offset_of, address_of, aligned, byte, part_at, lwl, lwr, ldl, ldr, loaded}
+use Rattle.interpreter.specs.Stores.{part_put, sd, swl, swr, sdl, sdr, stored, answering, conditionally}
 use Rattle.interpreter.specs.Kernel.{taken, branch_to, branching, region, jumping, after, does_other, does, kernel_def}
 use Rattle.interpreter.specs.declared.hi_lo.Pair.{Pair}
 use Rattle.interpreter.specs.declared.effect.Ins.{Ins}
+use Rattle.interpreter.specs.declared.effect.Rules.{Rules}
+use Rattle.interpreter.specs.declared.effect.Rules.TheVariants.{Interpreter, Manual}
 use Rattle.interpreter.specs.declared.effect.Change.{Change}
 use Rattle.interpreter.specs.declared.effect.Stop.TheVariants.{Refused, Call}
 use Rattle.interpreter.specs.declared.effect.Refusal.{Refusal}
@@ -32,6 +34,10 @@ use Rattle.interpreter.proofs.Laws.Puts.{put_lt}
 pick_lt : (b : Bool) {x y n : ℕ} → x < n → y < n → cond b x y < n
 pick_lt true p q = p
 pick_lt false p q = q
+
+by_lt : (r : Rules) {x y n : ℕ} → x < n → y < n → by_rules r x y < n
+by_lt Interpreter p q = p
+by_lt Manual p q = q
 
 pub wrapped : (x : ℕ) → x % 2 ^ 64 < 2 ^ 64
 wrapped x = omega arith
@@ -106,9 +112,9 @@ pub record Bounded (e : Change) : Type 0 where
 
 -- ---- results of registers and immediates
 
-shift_left_lt : (rules x s : ℕ) → shift_left rules x s < 2 ^ 64
+shift_left_lt : (rules : Rules) (x s : ℕ) → shift_left rules x s < 2 ^ 64
 unfolding shift_left
-shift_left_lt rules x s = pick_lt (eqb rules 0) (extend_lt (word x * 2 ^ s) 32) (word_lt (word x * 2 ^ s))
+shift_left_lt rules x s = by_lt rules (extend_lt (word x * 2 ^ s) 32) (word_lt (word x * 2 ^ s))
 
 shift_signed_lt : (x s : ℕ) → shift_signed x s < 2 ^ 64
 unfolding shift_signed
@@ -122,22 +128,22 @@ double_signed_lt : (x s : ℕ) → double_signed x s < 2 ^ 64
 unfolding double_signed
 double_signed_lt x s = sext_lt (64 - s) (x / 2 ^ s) (omega arith)
 
-difference_lt : (rules x y : ℕ) → difference rules x y < 2 ^ 64
+difference_lt : (rules : Rules) (x y : ℕ) → difference rules x y < 2 ^ 64
 unfolding difference
-difference_lt rules x y = pick_lt (eqb rules 0) (extend_lt _ 32) (word_lt _)
+difference_lt rules x y = by_lt rules (extend_lt _ 32) (word_lt _)
 
 count_lt : (k n : ℕ) → k ≤ 64 → count_leading_zeros k n < 2 ^ 64
 count_lt k n h = omega (arith, leading_le k n)
 
 result_lt : (a : Alu) (i : Ins) → Small i → result a i < 2 ^ 64
 unfolding result shift_right shift_signed_by double_left sum mul nor leading_zeros32 leading_ones32
-result_lt SLL i s = shift_left_lt i.rules i.rt (shamt_of i.word)
+result_lt SLL i s = shift_left_lt (rules_of i.rules) i.rt (shamt_of i.word)
 result_lt SRL i s = word_lt _
 result_lt SRA i s = shift_signed_lt i.rt (shamt_of i.word)
-result_lt SLLV i s = shift_left_lt i.rules i.rt (i.rs % 32)
+result_lt SLLV i s = shift_left_lt (rules_of i.rules) i.rt (i.rs % 32)
 result_lt SRLV i s = word_lt _
 result_lt SRAV i s =
-    pick_lt (eqb i.rules 0) (pick_lt (eqb (i.rs % 64) 32) (lit< tt) (shift_signed_lt i.rt (i.rs % 32))) (shift_signed_lt i.rt (i.rs % 32))
+    by_lt (rules_of i.rules) (pick_lt (eqb (i.rs % 64) 32) (lit< tt) (shift_signed_lt i.rt (i.rs % 32))) (shift_signed_lt i.rt (i.rs % 32))
 result_lt DSLL i s = wrapped _
 result_lt DSRL i s = double_right_lt i.rt (shamt_of i.word) s.rt
 result_lt DSRA i s = double_signed_lt i.rt (shamt_of i.word)
@@ -149,8 +155,8 @@ result_lt DSRLV i s = double_right_lt i.rt (i.rs % 64) s.rt
 result_lt DSRAV i s = double_signed_lt i.rt (i.rs % 64)
 result_lt ADD i s = word_lt _
 result_lt ADDU i s = word_lt _
-result_lt SUB i s = difference_lt i.rules i.rs i.rt
-result_lt SUBU i s = difference_lt i.rules i.rs i.rt
+result_lt SUB i s = difference_lt (rules_of i.rules) i.rs i.rt
+result_lt SUBU i s = difference_lt (rules_of i.rules) i.rs i.rt
 result_lt DADD i s = wrapped _
 result_lt DADDU i s = wrapped _
 result_lt DSUB i s = wrapped _
@@ -197,20 +203,18 @@ product_lt : (x y : ℕ) → product 64 x y < 2 ^ (64 + 64)
 unfolding product
 product_lt x y = signed_lt (64 + 64) _ (magnitude 64 x * magnitude 64 y) (product_small 64 (distance_lt x) (distance_lt y))
 
-dmult_lt : (rules x y : ℕ) → x < 2 ^ 64 → y < 2 ^ 64 → Both (dmult rules x y)
+dmult_lt : (rules : Rules) (x y : ℕ) → x < 2 ^ 64 → y < 2 ^ 64 → Both (dmult rules x y)
 unfolding dmult
-dmult_lt rules x y h k = go (eqb rules 0)
-  where
-    go : (b : Bool) → Both (cond b (dmultu x y) (doublewords (product 64 x y)))
-    go true = dmultu_lt x y h k
-    go false = halves_lt (product 64 x y) (product_lt x y)
+dmult_lt Interpreter x y h k = dmultu_lt x y h k
+dmult_lt Manual x y h k = halves_lt (product 64 x y) (product_lt x y)
 
-divu_lt : (rules x y : ℕ) → Both (divu rules x y)
+divu_lt : (rules : Rules) (x y : ℕ) → Both (divu rules x y)
 unfolding divu
-divu_lt rules x y =
+divu_lt Interpreter x y =
     let q = div-le_self (word x) (word y) in
     let r = mod-le (word x) (word y) in
-    (pick_lt (eqb rules 0) (omega arith) (word_lt _), pick_lt (eqb rules 0) (omega arith) (word_lt _))
+    (omega arith, omega arith)
+divu_lt Manual x y = (word_lt _, word_lt _)
 
 ddiv_lt : (x y : ℕ) → Both (ddiv x y)
 unfolding ddiv quotient remainder
@@ -235,25 +239,25 @@ ldl_lt m o t h =
     let e : 8 - o + o ≡ 8 = omega arith in
     rw e at (join_lt (8 - o) o (big (8 - o) (byte m) o) (t % 256 ^ o) (bytes_lt (8 - o) m o) (mod-lt t (bytes_pos o)))
 
-ldr_lt : (rules m o t : ℕ) → o < 8 → t < 2 ^ 64 → ldr rules m o t < 2 ^ 64
+ldr_lt : (rules : Rules) (m o t : ℕ) → o < 8 → t < 2 ^ 64 → ldr rules m o t < 2 ^ 64
 unfolding ldr
 ldr_lt rules m o t h k =
     let e : 7 - o + (o + 1) ≡ 8 = omega arith in
     let b = cut_lt (7 - o) (o + 1) t (rw e k) in
-    pick_lt (eqb rules 0 && eqb o 7) (or_lt m t) (rw e at (join_lt (7 - o) (o + 1) (t / 256 ^ (o + 1)) (big (o + 1) (byte m) 0) b (bytes_lt (o + 1) m 0)))
+    pick_lt (by_rules rules (eqb o 7) false) (or_lt m t) (rw e at (join_lt (7 - o) (o + 1) (t / 256 ^ (o + 1)) (big (o + 1) (byte m) 0) b (bytes_lt (o + 1) m 0)))
 
 -- ---- bytes written
 
-sd_lt : (rules m o t : ℕ) → o < 8 → t < 2 ^ 64 → sd rules m o t < 2 ^ 64
+sd_lt : (rules : Rules) (m o t : ℕ) → o < 8 → t < 2 ^ 64 → sd rules m o t < 2 ^ 64
 unfolding sd
 sd_lt rules m o t h k =
     let e : 8 - o + o ≡ 8 = omega arith in
     let c : t * 256 ^ o % 2 ^ 64 ≡ t % 256 ^ (8 - o) * 256 ^ o = rw e at (shl_cut (8 - o) o t) in
-    pick_lt (eqb rules 0) (rw c (rw e at (join_lt (8 - o) o (t % 256 ^ (8 - o)) (m % 256 ^ o) (mod-lt t (bytes_pos (8 - o))) (mod-lt m (bytes_pos o))))) k
+    by_lt rules (rw c (rw e at (join_lt (8 - o) o (t % 256 ^ (8 - o)) (m % 256 ^ o) (mod-lt t (bytes_pos (8 - o))) (mod-lt m (bytes_pos o))))) k
 
-swr_lt : (rules m o t : ℕ) → swr rules m o t < 2 ^ 64
+swr_lt : (rules : Rules) (m o t : ℕ) → swr rules m o t < 2 ^ 64
 unfolding swr
-swr_lt rules m o t = pick_lt (eqb rules 0 && not (ltb o 4)) (or_lt _ _) (put_lt m (o / 4 * 4) (o % 4 + 1) t)
+swr_lt rules m o t = pick_lt (by_rules rules (not (ltb o 4)) false) (or_lt _ _) (put_lt m (o / 4 * 4) (o % 4 + 1) t)
 
 -- ---- every instruction: its refusals are its own, and its change is bounded where what it reads is small
 
@@ -297,6 +301,10 @@ module _ (i : Ins) where
   pick_fine true p q = p
   pick_fine false p q = q
 
+  by_fine : (r : Rules) {a b : Change} → Fine i (Ok a) → Fine i (Ok b) → Fine i (Ok (by_rules r a b))
+  by_fine Interpreter p q = p
+  by_fine Manual p q = q
+
   changes_fine : (d v h l : ℕ) → (Small i → v < 2 ^ 64) → (Small i → h < 2 ^ 64) → (Small i → l < 2 ^ 64) → Fine i (Ok (changes i d v h l))
   unfolding changes
   changes_fine d v h l p q r =
@@ -328,7 +336,7 @@ module _ (i : Ins) where
   dividing_fine : (n x y : ℕ) (p : Pair) → (Small i → Both p) → Fine i (dividing n i x y p)
   unfolding refusal_number
   dividing_fine n x y p b =
-      cond_fine (eqb y 0) zero_fine (cond_fine (overflows n i.rules x y) (fine (lit≤ tt, lit≤ tt)) (pair_fine p b))
+      cond_fine (eqb y 0) zero_fine (cond_fine (overflows n (rules_of i.rules) x y) (fine (lit≤ tt, lit≤ tt)) (pair_fine p b))
 
   hilo_fine : (h : HiLo) → Fine i (hi_lo h i)
   unfolding hi_lo mult multu div
@@ -336,11 +344,11 @@ module _ (i : Ins) where
   hilo_fine MTLO = pair_fine (pair i.hi i.rs) (λ s. (s.hi, s.rs))
   hilo_fine MULT = pair_fine (mult i.rs i.rt) (λ s. (word_lt _, word_lt _))
   hilo_fine MULTU = pair_fine (multu i.rs i.rt) (λ s. (word_lt _, word_lt _))
-  hilo_fine DMULT = pair_fine (dmult i.rules i.rs i.rt) (λ s. dmult_lt i.rules i.rs i.rt s.rs s.rt)
+  hilo_fine DMULT = pair_fine (dmult (rules_of i.rules) i.rs i.rt) (λ s. dmult_lt (rules_of i.rules) i.rs i.rt s.rs s.rt)
   hilo_fine DMULTU = pair_fine (dmultu i.rs i.rt) (λ s. dmultu_lt i.rs i.rt s.rs s.rt)
   hilo_fine DIV = dividing_fine 32 (word i.rs) (word i.rt) (div i.rs i.rt) (λ s. (word_lt _, word_lt _))
   hilo_fine DIVU =
-      cond_fine (eqb (word i.rt) 0) zero_fine (pair_fine (divu i.rules i.rs i.rt) (λ s. divu_lt i.rules i.rs i.rt))
+      cond_fine (eqb (word i.rt) 0) zero_fine (pair_fine (divu (rules_of i.rules) i.rs i.rt) (λ s. divu_lt (rules_of i.rules) i.rs i.rt))
   hilo_fine DDIV = dividing_fine 64 i.rs i.rt (ddiv i.rs i.rt) (λ s. ddiv_lt i.rs i.rt)
   hilo_fine DDIVU =
       cond_fine (eqb i.rt 0) zero_fine (pair_fine (ddivu i.rs i.rt) (λ s. ddivu_lt i.rs i.rt s.rs))
@@ -352,14 +360,14 @@ module _ (i : Ins) where
 
   aligned_fine : (n v : ℕ) → (Small i → v < 2 ^ 64) → FineValue i (aligned i n v)
   unfolding aligned refusal_number
-  aligned_fine n v p = go (not (eqb i.rules 0) && not (eqb (address_of i.word i.rs % n) 0))
+  aligned_fine n v p = go (by_rules (rules_of i.rules) false (not (eqb (address_of i.word i.rs % n) 0)))
     where
       go : (b : Bool) → FineValue i (cond b (Err AddressError) (Ok v))
       go true = fine_value (lit≤ tt, lit≤ tt)
       go false = value_fine v p
 
   loaded_fine : (l : Load) → FineValue i (loaded l i)
-  unfolding loaded byte_at half_at word_at lwl lwr
+  unfolding loaded part_at lwl lwr
   loaded_fine LB = value_fine _ (λ s. sext_lt 8 _ (lit≤ tt))
   loaded_fine LBU = value_fine _ (λ s. few_lt 1 i.mem _ (lit≤ tt))
   loaded_fine LH = aligned_fine 2 _ (λ s. sext_lt 16 _ (lit≤ tt))
@@ -372,16 +380,16 @@ module _ (i : Ins) where
   loaded_fine LWL = value_fine _ (λ s. word_lt _)
   loaded_fine LWR = value_fine _ (λ s. word_lt _)
   loaded_fine LDL = value_fine _ (λ s. ldl_lt i.mem (offset_of i) i.rt (offset_lt _))
-  loaded_fine LDR = value_fine _ (λ s. ldr_lt i.rules i.mem (offset_of i) i.rt (offset_lt _) s.rt)
+  loaded_fine LDR = value_fine _ (λ s. ldr_lt (rules_of i.rules) i.mem (offset_of i) i.rt (offset_lt _) s.rt)
 
   stored_fine : (x : Store) → FineValue i (stored x i)
-  unfolding stored sb sh sw swl sdl sdr
+  unfolding stored part_put swl sdl sdr
   stored_fine SB = value_fine _ (λ s. put_lt i.mem _ 1 _)
   stored_fine SH = aligned_fine 2 _ (λ s. put_lt i.mem _ 2 _)
   stored_fine SW = aligned_fine 4 _ (λ s. put_lt i.mem _ 4 _)
-  stored_fine SD = aligned_fine 8 _ (λ s. sd_lt i.rules i.mem (offset_of i) i.rt (offset_lt _) s.rt)
+  stored_fine SD = aligned_fine 8 _ (λ s. sd_lt (rules_of i.rules) i.mem (offset_of i) i.rt (offset_lt _) s.rt)
   stored_fine SWL = value_fine _ (λ s. put_lt i.mem _ _ _)
-  stored_fine SWR = value_fine _ (λ s. swr_lt i.rules i.mem (offset_of i) i.rt)
+  stored_fine SWR = value_fine _ (λ s. swr_lt (rules_of i.rules) i.mem (offset_of i) i.rt)
   stored_fine SDL = value_fine _ (λ s. put_lt i.mem _ _ _)
   stored_fine SDR = value_fine _ (λ s. put_lt i.mem 0 _ _)
 
@@ -390,7 +398,7 @@ module _ (i : Ins) where
   after_fine f p (Err n) (fine_value q) = fine q
 
   answering_fine : (o : Result ℕ Refusal) → FineValue i o → Fine i (answering i o)
-  answering_fine (Ok m) (fine_value q) = pick_fine (eqb i.rules 0 && eqb (rt_of i.word) 0) none_fine (storing_fine (rt_of i.word) 1 m (lit< tt) q)
+  answering_fine (Ok m) (fine_value q) = pick_fine (by_rules (rules_of i.rules) (eqb (rt_of i.word) 0) false) none_fine (storing_fine (rt_of i.word) 1 m (lit< tt) q)
   answering_fine (Err n) (fine_value q) = fine q
 
   conditional_fine : (c : Conditional) → Fine i (conditionally c i)
@@ -435,7 +443,7 @@ module _ (i : Ins) where
   unfolding does_other
   other_fine MOVZ = move_fine (eqb i.rt 0)
   other_fine MOVN = move_fine (not (eqb i.rt 0))
-  other_fine SYNC = move_fine (eqb i.rules 0)
+  other_fine SYNC = by_fine (rules_of i.rules) (register_fine _ _ (λ s. s.rs)) none_fine
   other_fine SYSCALL = fine (record {})
 
   does_fine : (n : Instruction) → Fine i (does n i)

@@ -7,7 +7,7 @@ use lib.Seq.{get_or_at}
 use Rattle.pages.specs.Bytes.{cell, big, bytes_of}
 use Rattle.pages.proofs.Laws.Numbers.{big_ext, length_bytes, bytes_bytes}
 use Rattle.pages.proofs.Laws.Places.{big_bound}
-use Rattle.interpreter.specs.Loads.{byte, word_at}
+use Rattle.interpreter.specs.Loads.{byte, part_at}
 use Rattle.interpreter.proofs.Laws.Shifts.{bytes_pos, shr_lt}
 
 -- ---- a big-endian number by its first a bytes and the b after them
@@ -67,10 +67,10 @@ big_start n j l v e h = big_part n 0 j l v (omega arith) ∙ mod-eq_of_lt (shr_l
 -- ---- the word that an offset is in, by its first a bytes and the b after them
 
 module _ (m o a b : ℕ) (e : a + b ≡ 4) where
-  pub word_high : word_at m o / 256 ^ b ≡ big a (byte m) (o / 4 * 4)
-  unfolding word_at
+  pub word_high : part_at 4 m o / 256 ^ b ≡ big a (byte m) (o / 4 * 4)
+  unfolding part_at
   word_high = rw e at (big_high a b (byte m) (o / 4 * 4) (bytes_bytes 8 m))
 
-  pub word_low : word_at m o % 256 ^ b ≡ big b (byte m) (o / 4 * 4 + a)
-  unfolding word_at
+  pub word_low : part_at 4 m o % 256 ^ b ≡ big b (byte m) (o / 4 * 4 + a)
+  unfolding part_at
   word_low = rw e at (big_low a b (byte m) (o / 4 * 4) (bytes_bytes 8 m))

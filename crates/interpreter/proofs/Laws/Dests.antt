@@ -1,6 +1,6 @@
 -- What the step needs to know of the kernel: the register that it writes is one, when it calls, and that the touched address is a doubleword's.
 use Rattle.std.specs.Prelude.{Result, Ok, Err}
-use Rattle.std.proofs.Common.{◌≡◌, ℕ, ◌*◌, ◌/◌, ◌%◌, ◌<◌, Bool, true, false, cond, not, ◌&&◌, eqb, sym, refl, ap, ◌∙◌, mod-lt, arith, lit<, eq-eqb, Option, Some, None}
+use Rattle.std.proofs.Common.{◌≡◌, ℕ, ◌*◌, ◌/◌, ◌%◌, ◌<◌, Bool, true, false, cond, not, eqb, sym, refl, ap, ◌∙◌, mod-lt, arith, lit<, eq-eqb, Option, Some, None}
 use Rattle.interpreter.specs.Isa.{rt_of, rd_of, HiLo, MTHI, MTLO, MULT, MULTU, DMULT, DMULTU, DIV, DIVU, DDIV, DDIVU, Conditional, SC, SCD, Branch, BEQ, BNE, BLEZ, BGTZ, BLTZ, BGEZ, BGEZAL, Jump, J, JAL, JR, JALR, Other, MOVZ, MOVN, SYNC, SYSCALL, Instruction, alu, imm, hilo, load, store, conditional, branch, jump, other, reserved, reserved_branch}
 use Rattle.interpreter.specs.OpcodeMap.{decode}
 use Rattle.interpreter.specs.Effects.{changes, storing, going, to_register, Effect}
@@ -9,9 +9,11 @@ use Rattle.interpreter.specs.declared.hi_lo.Pair.{Pair}
 use Rattle.interpreter.specs.Loads.{loaded, address_of}
 use Rattle.interpreter.specs.Stores.{stored, conditionally, answering}
 use Rattle.interpreter.specs.Kernel.{after, branching, jumping, does_other, does, kernel_def, touching, touch_def}
-use Rattle.interpreter.specs.Words.{plus, word, by_rules}
+use Rattle.interpreter.specs.Words.{plus, word, rules_of, by_rules}
 use Rattle.interpreter.specs.Isa.{SW, SD}
 use Rattle.interpreter.specs.declared.effect.Ins.{Ins}
+use Rattle.interpreter.specs.declared.effect.Rules.{Rules}
+use Rattle.interpreter.specs.declared.effect.Rules.TheVariants.{Interpreter, Manual}
 use Rattle.interpreter.specs.declared.effect.Change.{Change}
 use Rattle.interpreter.specs.declared.effect.Stop.TheVariants.{Refused, Call}
 use Rattle.interpreter.specs.declared.effect.Refusal.{Refusal}
@@ -57,9 +59,13 @@ fine_pick : (t : Bool) {z : Bool} {a b : Change} → Fine z (Ok a) → Fine z (O
 fine_pick true p q = p
 fine_pick false p q = q
 
-small_cond : (t : Bool) {a b : ℕ} → a < 32 → b < 32 → cond t a b < 32
-small_cond true p q = p
-small_cond false p q = q
+fine_by : (r : Rules) {z : Bool} {a b : Change} → Fine z (Ok a) → Fine z (Ok b) → Fine z (Ok (by_rules r a b))
+fine_by Interpreter p q = p
+fine_by Manual p q = q
+
+small_by : (r : Rules) {a b : ℕ} → a < 32 → b < 32 → by_rules r a b < 32
+small_by Interpreter p q = p
+small_by Manual p q = q
 
 none : 0 < 32
 none = lit< tt
@@ -87,14 +93,14 @@ fine_after f (Ok v) p = p v
 fine_after f (Err n) p = fine_refused _
 
 fine_answering : (i : Ins) (o : Result ℕ Refusal) → Fine false (answering i o)
-fine_answering i (Ok m) = fine_pick (eqb i.rules 0 && eqb (rt_of i.word) 0) (fine_changes i 0 0 i.hi i.lo none) (fine_storing i (rt_of i.word) 1 m (field _))
+fine_answering i (Ok m) = fine_pick (by_rules (rules_of i.rules) (eqb (rt_of i.word) 0) false) (fine_changes i 0 0 i.hi i.lo none) (fine_storing i (rt_of i.word) 1 m (field _))
 fine_answering i (Err n) = fine_refused _
 
 fine_hilo : (i : Ins) (p : Pair) → Fine false (Ok (to_hi_lo i p))
-fine_hilo i p = fine_changes i (by_rules i.rules (rd_of i.word) 0) 0 p.hi p.lo (small_cond (eqb i.rules 0) (field _) none)
+fine_hilo i p = fine_changes i (by_rules (rules_of i.rules) (rd_of i.word) 0) 0 p.hi p.lo (small_by (rules_of i.rules) (field _) none)
 
 fine_divides : (n : ℕ) (i : Ins) (x y : ℕ) (p : Pair) → Fine false (dividing n i x y p)
-fine_divides n i x y p = fine_cond (eqb y 0) (fine_refused _) (fine_cond (overflows n i.rules x y) (fine_refused _) (fine_hilo i p))
+fine_divides n i x y p = fine_cond (eqb y 0) (fine_refused _) (fine_cond (overflows n (rules_of i.rules) x y) (fine_refused _) (fine_hilo i p))
 
 hilo_fine : (h : HiLo) (i : Ins) → Fine false (hi_lo h i)
 unfolding hi_lo
@@ -102,10 +108,10 @@ hilo_fine MTHI i = fine_hilo i (pair i.rs i.lo)
 hilo_fine MTLO i = fine_hilo i (pair i.hi i.rs)
 hilo_fine MULT i = fine_hilo i (mult i.rs i.rt)
 hilo_fine MULTU i = fine_hilo i (multu i.rs i.rt)
-hilo_fine DMULT i = fine_hilo i (dmult i.rules i.rs i.rt)
+hilo_fine DMULT i = fine_hilo i (dmult (rules_of i.rules) i.rs i.rt)
 hilo_fine DMULTU i = fine_hilo i (dmultu i.rs i.rt)
 hilo_fine DIV i = fine_divides 32 i (word i.rs) (word i.rt) (div i.rs i.rt)
-hilo_fine DIVU i = fine_cond (eqb (word i.rt) 0) (fine_refused _) (fine_hilo i (divu i.rules i.rs i.rt))
+hilo_fine DIVU i = fine_cond (eqb (word i.rt) 0) (fine_refused _) (fine_hilo i (divu (rules_of i.rules) i.rs i.rt))
 hilo_fine DDIV i = fine_divides 64 i i.rs i.rt (ddiv i.rs i.rt)
 hilo_fine DDIVU i = fine_cond (eqb i.rt 0) (fine_refused _) (fine_hilo i (ddivu i.rs i.rt))
 
@@ -138,7 +144,7 @@ other_fine : (o : Other) (i : Ins) → Fine (other_calls o) (does_other o i)
 unfolding does_other
 other_fine MOVZ i = move_fine (eqb i.rt 0) i
 other_fine MOVN i = move_fine (not (eqb i.rt 0)) i
-other_fine SYNC i = move_fine (eqb i.rules 0) i
+other_fine SYNC i = fine_by (rules_of i.rules) (fine_changes i _ _ _ _ (field _)) (fine_changes i 0 0 _ _ none)
 other_fine SYSCALL i = fine_call
 
 does_fine : (n : Instruction) (i : Ins) → Fine (calls n) (does n i)

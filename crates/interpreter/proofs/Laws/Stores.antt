@@ -1,10 +1,12 @@
 -- What the code of SWL, SWR, SDL and SDR computes is what they store.
-use Rattle.std.proofs.Common.{◌≡◌, ℕ, ◌+◌, ◌-◌, ◌*◌, ◌/◌, ◌%◌, ◌^◌, ◌<◌, ◌≤◌, eqb, refl, ◌∙◌, add-zero, mod-eq_of_lt, add_comm, div-add-mod', arith, shl_exact, le-ltb, lt-ltb, eq-eqb, ne_eqb}
-use mathlib.Core.Bool.{and-false}
+use Rattle.std.proofs.Common.{◌≡◌, ℕ, ◌+◌, ◌-◌, ◌*◌, ◌/◌, ◌%◌, ◌^◌, ◌<◌, ◌≤◌, false, refl, ◌∙◌, add-zero, mod-eq_of_lt, add_comm, div-add-mod', arith, shl_exact, le-ltb, lt-ltb}
 use lib.Bits.{bit_or}
 use Rattle.interpreter.specs.Words.{word}
-use Rattle.interpreter.specs.Loads.{word_at}
-use Rattle.interpreter.specs.Stores.{sw, swl, swr, swr_word, pushed_out, sdl, sdr}
+use Rattle.interpreter.specs.declared.effect.Rules.{Rules}
+use Rattle.interpreter.specs.declared.effect.Rules.TheVariants.{Interpreter, Manual}
+use Rattle.interpreter.proofs.Laws.Words.{by_same}
+use Rattle.interpreter.specs.Loads.{part_at}
+use Rattle.interpreter.specs.Stores.{part_put, swl, swr, swr_word, pushed_out, sdl, sdr}
 use Rattle.interpreter.proofs.Laws.Shifts.{mod_mod, shr_lt, raised, raised_is, raised_word, raised_word_lem, raised_word_lt, merged, merged_is, merged_lt}
 use Rattle.interpreter.proofs.Laws.Bytes.{word_high, word_low}
 use Rattle.interpreter.proofs.Laws.Puts.{put_is, put_lt, put_after, put_before}
@@ -24,9 +26,9 @@ sdl_fits m o t g h l = merged_lt (64 - 8 * o) (8 * o) (8 - o) o (omega arith) re
 
 -- ---- parts of a word
 
-module _ (m o t : ℕ) (g : o < 8) (h : m < 2 ^ 64) (w : ℕ) (e : w ≡ word_at m o) where
-  pub swl_is : w < 2 ^ 32 → sw m o (merged (32 - 8 * (o % 4)) (8 * (o % 4)) w (word t)) ≡ swl m o t
-  unfolding sw swl
+module _ (m o t : ℕ) (g : o < 8) (h : m < 2 ^ 64) (w : ℕ) (e : w ≡ part_at 4 m o) where
+  pub swl_is : w < 2 ^ 32 → part_put 4 m o (merged (32 - 8 * (o % 4)) (8 * (o % 4)) w (word t)) ≡ swl m o t
+  unfolding part_put swl
   swl_is l =
       let q : ℕ = o % 4 in
       let v : ℕ = word t / 256 ^ q in
@@ -35,8 +37,8 @@ module _ (m o t : ℕ) (g : o < 8) (h : m < 2 ^ 64) (w : ℕ) (e : w ≡ word_at
       rw (merged_is (32 - 8 * q) (8 * q) (4 - q) q (omega arith) refl w (word t) (omega arith), e, word_high m o q (4 - q) a)
       (rw (a, b, div-add-mod' o 4) at (put_after (o / 4 * 4) q (4 - q) (4 - o / 4 * 4) (omega arith) m v h))
 
-  swr_word_lem : sw m o (raised_word (24 - 8 * (o % 4)) (word t) w) ≡ swr_word m o t
-  unfolding sw
+  swr_word_lem : part_put 4 m o (raised_word (24 - 8 * (o % 4)) (word t) w) ≡ swr_word m o t
+  unfolding part_put
   swr_word_lem =
       let q : ℕ = o % 4 in
       let a : q + 1 + (3 - q) ≡ 4 = omega arith in
@@ -45,22 +47,22 @@ module _ (m o t : ℕ) (g : o < 8) (h : m < 2 ^ 64) (w : ℕ) (e : w ≡ word_at
       (rw a at (put_before (o / 4 * 4) (q + 1) (3 - q) (4 - o / 4 * 4) (omega arith) m t h))
 
   -- rules 0, in the lower word: what is pushed out is or-ed into the upper word
-  pub swr_or : (rules : ℕ) → rules ≡ 0 → 4 ≤ o
-      → bit_or (sw m o (raised_word (24 - 8 * (o % 4)) (word t) w)) (word t * 2 ^ (24 - 8 * (o % 4)) % 2 ^ 64 / 2 ^ 32 * 2 ^ 32) ≡ swr rules m o t
+  pub swr_or : (rules : Rules) → rules ≡ Interpreter → 4 ≤ o
+      → bit_or (part_put 4 m o (raised_word (24 - 8 * (o % 4)) (word t) w)) (word t * 2 ^ (24 - 8 * (o % 4)) % 2 ^ 64 / 2 ^ 32 * 2 ^ 32) ≡ swr rules m o t
   unfolding swr
   swr_or rules r l =
       let u : ℕ = 24 - 8 * (o % 4) in
       let x : word t * 2 ^ u % 2 ^ 64 ≡ word t * 2 ^ u = shl_exact 32 u 64 (omega arith) (omega arith) in
-      rw (eq-eqb _ _ r, le-ltb _ _ l, swr_word_lem, x)
+      rw (r, le-ltb _ _ l, swr_word_lem, x)
       (or_is (swr_word m o t) (pushed_out o t) (put_lt m (o / 4 * 4) (o % 4 + 1) t) (omega arith))
 
-  pub swr_upper : (rules : ℕ) → o < 4 → sw m o (raised_word (24 - 8 * (o % 4)) (word t) w) ≡ swr rules m o t
+  pub swr_upper : (rules : Rules) → o < 4 → part_put 4 m o (raised_word (24 - 8 * (o % 4)) (word t) w) ≡ swr rules m o t
   unfolding swr
-  swr_upper rules l = rw (lt-ltb _ _ l, and-false (eqb rules 0)) swr_word_lem
+  swr_upper rules l = rw (lt-ltb _ _ l, by_same rules false) swr_word_lem
 
-  pub swr_cut : (rules : ℕ) → (rules ≡ 0 → ⊥) → sw m o (raised_word (24 - 8 * (o % 4)) (word t) w) ≡ swr rules m o t
+  pub swr_cut : (rules : Rules) → rules ≡ Manual → part_put 4 m o (raised_word (24 - 8 * (o % 4)) (word t) w) ≡ swr rules m o t
   unfolding swr
-  swr_cut rules r = rw (ne_eqb _ _ r) swr_word_lem
+  swr_cut rules r = rw r swr_word_lem
 
 -- ---- parts of the doubleword
 

@@ -1,12 +1,20 @@
 -- Sign extension and signed order.
-use Rattle.std.proofs.Common.{◌≡◌, ℕ, suc, ◌+◌, ◌-◌, ◌*◌, ◌/◌, ◌%◌, ◌^◌, ◌<◌, ◌≤◌, true, false, cond, ltb, leb, sym, ap, ◌∙◌, mod-lt, mod-eq_of_lt, arith, pow_pos, pow_mono, shr_lt, le-ltb, lt-ltb, eq-eqb, ne_eqb, le-leb}
+use Rattle.std.proofs.Common.{◌≡◌, ℕ, suc, ◌+◌, ◌-◌, ◌*◌, ◌/◌, ◌%◌, ◌^◌, ◌<◌, ◌≤◌, true, false, cond, ltb, leb, refl, sym, ap, ◌∙◌, mod-lt, mod-eq_of_lt, arith, pow_pos, pow_mono, shr_lt, le-ltb, lt-ltb, eq-eqb, ne_eqb, le-leb}
 use native.Mathlib.Nat.{mod-eq-sub-mod, mod-add-mod, pow-succ'}
 use native.Mathlib.Decide.{dec_lt}
 use lib.Pow.{mod-mod-pow}
 use borrow.Author.Tests.{lt-leb}
-use Rattle.interpreter.specs.Words.{sext, sign_extend, less}
+use Rattle.interpreter.specs.Words.{by_rules, sext, sign_extend, less}
 use Rattle.interpreter.specs.Alu.{double_signed, shift_signed}
+use Rattle.interpreter.specs.declared.effect.Rules.{Rules}
+use Rattle.interpreter.specs.declared.effect.Rules.TheVariants.{Interpreter, Manual}
 use Rattle.interpreter.proofs.Laws.Powers.{not_shr, shr_ge}
+
+-- ---- rules
+
+pub by_same : {A : Type 0} (r : Rules) (x : A) → by_rules r x x ≡ x
+by_same Interpreter x = refl
+by_same Manual x = refl
 
 -- ---- sext, by the sign
 

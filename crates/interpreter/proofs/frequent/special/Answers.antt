@@ -7,7 +7,7 @@ use Rattle.interpreter.proofs.frequent.special.Goals as goal
 
 pub returns-in-64 : goal.returns-in-64
 unfolding find found special jump_registers others hilos registers shifts sums logic result hi_lo jumping does_other does
-returns-in-64 c = quiet_special _ c.requires 0x0 c.in-64.is (simp (c.to_rd.ensures, c.shift_left.ensures, c.shamt.ensures))
+returns-in-64 c = quiet_special _ c.requires 0x0 c.in-64.is (simp (c.to_rd.ensures, c.shift_left.ensures, c.rules.ensures, c.shamt.ensures))
 
 pub returns-in-66 : goal.returns-in-66
 unfolding find found special jump_registers others hilos registers shifts sums logic result hi_lo jumping does_other does
@@ -19,7 +19,7 @@ returns-in-67 c = quiet_special _ c.requires 0x3 c.in-67.is (simp (c.to_rd-in-67
 
 pub returns-in-68 : goal.returns-in-68
 unfolding find found special jump_registers others hilos registers shifts sums logic result hi_lo jumping does_other does
-returns-in-68 c = quiet_special _ c.requires 0x4 c.in-68.is (simp (c.to_rd-in-68.ensures, c.shift_left-in-68.ensures))
+returns-in-68 c = quiet_special _ c.requires 0x4 c.in-68.is (simp (c.to_rd-in-68.ensures, c.shift_left-in-68.ensures, c.rules-in-68.ensures))
 
 pub returns-in-70 : goal.returns-in-70
 unfolding find found special jump_registers others hilos registers shifts sums logic result hi_lo jumping does_other does
@@ -27,7 +27,7 @@ returns-in-70 c = quiet_special _ c.requires 0x6 c.in-70.is (simp (c.to_rd-in-70
 
 pub returns-in-71 : goal.returns-in-71
 unfolding find found special jump_registers others hilos registers shifts sums logic result hi_lo jumping does_other does
-returns-in-71 c = quiet_special _ c.requires 0x7 c.in-71.is (simp (c.to_rd-in-71.ensures, c.shift_signed_by.ensures))
+returns-in-71 c = quiet_special _ c.requires 0x7 c.in-71.is (simp (c.to_rd-in-71.ensures, c.shift_signed_by.ensures, c.rules-in-71.ensures))
 
 pub returns-in-72 : goal.returns-in-72
 unfolding find found special jump_registers others hilos registers shifts sums logic result hi_lo jumping does_other does
@@ -47,7 +47,7 @@ returns-in-75 c = quiet_special _ c.requires 0xb c.in-75.is (simp c.move_if-in-7
 
 pub returns-in-79 : goal.returns-in-79
 unfolding find found special jump_registers others hilos registers shifts sums logic result hi_lo jumping does_other does
-returns-in-79 c = quiet_special _ c.requires 0xf c.in-79.is (simp c.move_if-in-79.ensures)
+returns-in-79 c = quiet_special _ c.requires 0xf c.in-79.is (simp c.sync.ensures)
 
 pub returns-in-80 : goal.returns-in-80
 unfolding find found special jump_registers others hilos registers shifts sums logic result hi_lo jumping does_other does
@@ -71,7 +71,7 @@ returns-in-87 c = quiet_special _ c.requires 0x17 c.in-87.is (simp (c.to_rd-in-8
 
 pub returns-in-92 : goal.returns-in-92
 unfolding find found special jump_registers others hilos registers shifts sums logic result hi_lo jumping does_other does
-returns-in-92 c = quiet_special _ c.requires 0x1c c.in-92.is (simp (c.to_hi_lo.ensures, c.dmult.ensures))
+returns-in-92 c = quiet_special _ c.requires 0x1c c.in-92.is (simp (c.to_hi_lo.ensures, c.dmult.ensures, c.rules-in-92.ensures))
 
 pub returns-in-93 : goal.returns-in-93
 unfolding find found special jump_registers others hilos registers shifts sums logic result hi_lo jumping does_other does
@@ -83,7 +83,7 @@ returns-in-97 c = quiet_special _ c.requires 0x21 c.in-97.is (simp (c.to_rd-in-9
 
 pub returns-in-99 : goal.returns-in-99
 unfolding find found special jump_registers others hilos registers shifts sums logic result hi_lo jumping does_other does
-returns-in-99 c = quiet_special _ c.requires 0x23 c.in-99.is (simp (c.to_rd-in-99.ensures, c.difference.ensures))
+returns-in-99 c = quiet_special _ c.requires 0x23 c.in-99.is (simp (c.to_rd-in-99.ensures, c.difference.ensures, c.rules-in-99.ensures))
 
 pub returns-in-100 : goal.returns-in-100
 unfolding find found special jump_registers others hilos registers shifts sums logic result hi_lo jumping does_other does
