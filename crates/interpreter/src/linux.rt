@@ -84,6 +84,7 @@ fn bad_descriptor() -> Call
     Call::Answer(u64::MAX, Errno::EBADF)
 }
 
+#[tactic(auto, using(crate::proofs::Laws::Calls::rounding), unfolding(crate::specs::Calls::mmap))]
 fn mmap(a0: u64, a1: u64, heap: u64) -> Call
     ensures { result ≡ mmap a0 a1 heap }
 {
@@ -94,6 +95,7 @@ fn mmap(a0: u64, a1: u64, heap: u64) -> Call
     Call::Answer(a0, 0)
 }
 
+#[tactic(auto, unfolding(crate::specs::Calls::reading))]
 fn read(fd: u64, a2: u64) -> Call
     ensures { result ≡ reading fd a2 }
 {
@@ -105,6 +107,7 @@ fn read(fd: u64, a2: u64) -> Call
     }
 }
 
+#[tactic(auto, unfolding(crate::specs::Calls::writing))]
 fn write(fd: u64) -> Call
     ensures { result ≡ writing fd }
 {
@@ -118,6 +121,7 @@ fn write(fd: u64) -> Call
 }
 
 // 0 for descriptors that are read, 1 for those that are written.
+#[tactic(auto, unfolding(crate::specs::Calls::mode_of))]
 fn mode_of(fd: u64) -> Call
     ensures { result ≡ mode_of fd }
 {
@@ -133,6 +137,7 @@ fn mode_of(fd: u64) -> Call
     }
 }
 
+#[tactic(auto, unfolding(crate::specs::Calls::control))]
 fn control(fd: u64, a1: u64) -> Call
     ensures { result ≡ control fd a1 }
 {
@@ -143,6 +148,7 @@ fn control(fd: u64, a1: u64) -> Call
 }
 
 /// The call with this number, descriptor, arguments and heap.
+#[tactic(auto, unfolding(crate::specs::Calls::call_of))]
 pub fn call_of(number: u64, fd: u64, a0: u64, a1: u64, a2: u64, heap: u64) -> Call
     ensures { result ≡ call_of number fd a0 a1 a2 heap }
 {

@@ -58,6 +58,7 @@ impl Machine<'_, '_, '_, '_, '_, '_> {
     }
 
     // The doubleword stored at an aligned address. Nothing changes where no page record is left for it.
+    #[tactic(auto, using(crate::proofs::Laws::Lent::put_none))]
     pub(crate) fn store(&mut self, address: u64, value: u64) -> Result<(), Refusal>
         requires { address % 8 ≡ 0 }
         ensures lent { SameLoans self.old self.new }

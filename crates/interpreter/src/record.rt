@@ -44,6 +44,7 @@ impl Record {
     pub const TOUCH_SIZE: usize = Record::SIZE - Record::ADDRESS;
 }
 
+#[tactic(auto, using(crate::proofs::Laws::Records::put_touched))]
 fn put_eights(buf: &mut [u8], address: u64, old: u64, new: u64)
     requires { length buf.old ≡ 752 }
     ensures { buf.new ≡ sets buf.old 728 (touch_bytes (Some address) old new) }
@@ -53,6 +54,7 @@ fn put_eights(buf: &mut [u8], address: u64, old: u64, new: u64)
     bytes::put_doubleword(buf, Record::NEW_EIGHT, new);
 }
 
+#[tactic(auto, using(crate::proofs::Laws::Records::put_untouched))]
 fn put_touch(buf: &mut [u8], t: Option<u64>, old: u64, new: u64)
     requires { length buf.old ≡ 752 }
     ensures { buf.new ≡ sets buf.old 728 (touch_bytes t old new) }
@@ -64,6 +66,7 @@ fn put_touch(buf: &mut [u8], t: Option<u64>, old: u64, new: u64)
 }
 
 // Bytes 720 to 751: the instruction, and the eight bytes that it touched, as they were and as they are.
+#[tactic(auto, using(crate::proofs::Laws::Records::put_rest))]
 pub(crate) fn put_rest(buf: &mut [u8], word: u64, t: Option<u64>, old: u64, new: u64)
     requires { length buf.old ≡ 752 }
     ensures { buf.new ≡ sets buf.old 720 (rest_of word t old new) }
@@ -74,7 +77,7 @@ pub(crate) fn put_rest(buf: &mut [u8], word: u64, t: Option<u64>, old: u64, new:
 }
 
 // What is known of a step before it is made: it is wide, or these are the eight bytes that it touches.
-#[derive(Clone, Copy)]
+#[derive(Clone, Copy, Debug, PartialEq, Eq)]
 pub(crate) enum Seen {
     Wide,
     Narrow(Option<u64>),
@@ -97,6 +100,7 @@ fn see_call(c: Cpu, regs: &[u64; 32]) -> Seen
 }
 
 // The same of any instruction. Whether it is a call is the kernel's to say, whatever the eight bytes are.
+#[tactic(auto, using(crate::proofs::Laws::Recorder::look_call, crate::proofs::Laws::Recorder::look_refused, crate::proofs::Laws::Recorder::look_done))]
 fn look(c: Cpu, regs: &[u64; 32], word: u64) -> Seen
     requires { c.pc % 4 ≡ 0 }
     ensures { result ≡ seen c regs.now word }
@@ -126,6 +130,7 @@ fn fill(buf: &mut [u8], s: State, n: State, word: u64, t: Option<u64>, old: u64,
 }
 
 // A step that isn't wide, recorded where it counts.
+#[tactic(auto, using(crate::proofs::Laws::Recorder::seen_counts, crate::proofs::Laws::Recorder::seen_not), unfolding(crate::specs::Machine::cpu_of, crate::specs::Machine::state_of))]
 fn step_seen(
     s: State,
     pages: &mut [u8],
@@ -152,6 +157,7 @@ fn step_seen(
 }
 
 /// One step, by value, with its record: filled for every unrefused step from an unexited state that isn't wide.
+#[tactic(auto, using(crate::proofs::Laws::Recorder::touched_even, crate::proofs::Laws::Recorder::record_short, crate::proofs::Laws::Recorder::record_misaligned, crate::proofs::Laws::Recorder::record_wide, crate::proofs::Laws::Recorder::record_done))]
 pub fn step_recorded(
     s: State,
     pages: &mut [u8],

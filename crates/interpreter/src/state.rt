@@ -44,6 +44,7 @@ pub struct Cpu {
 
 impl State {
     /// The numbers alone.
+    #[tactic(auto, unfolding(crate::specs::Machine::cpu_of))]
     pub fn cpu(self) -> Cpu
         ensures { result ≡ cpu_of self }
     {
@@ -65,6 +66,7 @@ impl State {
 
 impl Cpu {
     /// The state of these numbers with registers and key.
+    #[tactic(auto, unfolding(crate::specs::Machine::state_of))]
     pub fn with(self, regs: [u64; 32], key: [u8; 32]) -> State
         ensures { result ≡ state_of self regs key }
     {
@@ -88,46 +90,54 @@ impl Cpu {
     // The largest rules number.
     pub const RULES: u8 = 1;
 
+    #[tactic(auto, unfolding(crate::specs::Machine::counted))]
     pub(crate) fn counted(self) -> Cpu
         ensures { result ≡ counted self }
     {
-        let mut c = self;
-        c.step = bits::plus(self.step, 1);
-        c
+        Cpu {
+            step: bits::plus(self.step, 1),
+            ..self
+        }
     }
 
     // What an instruction changes.
+    #[tactic(auto, unfolding(crate::specs::Machine::changed))]
     pub(crate) fn changed(self, e: Change) -> Cpu
         ensures { result ≡ changed self e }
     {
-        let mut c = self;
-        c.pc = e.pc;
-        c.next = e.next;
-        c.hi = e.hi;
-        c.lo = e.lo;
-        c
+        Cpu {
+            pc: e.pc,
+            next: e.next,
+            hi: e.hi,
+            lo: e.lo,
+            ..self
+        }
     }
 
     // After a system call: the next instruction, with this heap, input offset and hint length.
+    #[tactic(auto, unfolding(crate::specs::Machine::onward))]
     pub(crate) fn onward(self, heap: u64, offset: u64, hint: u64) -> Cpu
         ensures { result ≡ onward self heap offset hint }
     {
-        let mut c = self;
-        c.pc = self.next;
-        c.next = bits::plus(self.next, 4);
-        c.heap = heap;
-        c.offset = offset;
-        c.hint = hint;
-        c
+        Cpu {
+            pc: self.next,
+            next: bits::plus(self.next, 4),
+            heap,
+            offset,
+            hint,
+            ..self
+        }
     }
 
     // After the exit call.
+    #[tactic(auto, unfolding(crate::specs::Machine::leaving))]
     pub(crate) fn leaving(self, code: u8) -> Cpu
         ensures { result ≡ leaving self code }
     {
-        let mut c = self;
-        c.exited = true;
-        c.code = code;
-        c
+        Cpu {
+            exited: true,
+            code,
+            ..self
+        }
     }
 }

@@ -17,7 +17,7 @@ use pages::memory;
 use pages::page::Page;
 
 // What a step answers.
-#[derive(Clone, Copy)]
+#[derive(Clone, Copy, Debug, PartialEq, Eq)]
 pub enum Answer {
     Stepped,
     // Stream and count.
@@ -29,7 +29,7 @@ pub enum Answer {
 }
 
 // An answer in document 01's numbers: which one it is, counted from 0 in document 01's order, and its values.
-#[derive(Clone, Copy)]
+#[derive(Clone, Copy, Debug, PartialEq, Eq)]
 pub struct Values {
     pub kind: u8,
     pub first: u64,
@@ -37,6 +37,7 @@ pub struct Values {
 }
 
 impl Answer {
+    #[tactic(auto, unfolding(crate::specs::Step::values_of))]
     pub fn values(self) -> Values
         ensures { result ≡ values_of self }
     {
@@ -61,14 +62,14 @@ fn said(kind: u8, first: u64, second: u64) -> Values
 }
 
 // What a step answers, and whether it was an unrefused step from an unexited state.
-#[derive(Clone, Copy)]
+#[derive(Clone, Copy, Debug, PartialEq, Eq)]
 pub(crate) struct Made {
     pub answer: Answer,
     pub counts: bool,
 }
 
 // What the step by value leaves beside the lent bytes.
-#[derive(Clone, Copy)]
+#[derive(Clone, Copy, Debug, PartialEq, Eq)]
 pub struct Finished {
     pub answer: Answer,
     pub state: State,
@@ -78,7 +79,7 @@ pub struct Finished {
 }
 
 // What the step in place leaves beside the lent machine: the same without the state.
-#[derive(Clone, Copy)]
+#[derive(Clone, Copy, Debug, PartialEq, Eq)]
 pub struct InPlace {
     pub answer: Answer,
     pub used: usize,
@@ -93,6 +94,7 @@ pub(crate) fn aligned(address: u64) -> u64
 }
 
 // The word at an aligned pc.
+#[tactic(auto, using(crate::proofs::Laws::Paging::loaded))]
 pub(crate) fn fetch(pages: &[u8], used: usize, pc: u64) -> u64
     requires { pc % 4 ≡ 0 }
     ensures { result ≡ big 4 (byte_at pages.now used) pc }
@@ -101,6 +103,7 @@ pub(crate) fn fetch(pages: &[u8], used: usize, pc: u64) -> u64
 }
 
 // The doubleword at an aligned address.
+#[tactic(auto, using(crate::proofs::Laws::Paging::loaded))]
 pub(crate) fn eight(pages: &[u8], used: usize, address: u64) -> u64
     requires { address % 8 ≡ 0 }
     ensures { result ≡ big 8 (byte_at pages.now used) address }
@@ -115,6 +118,7 @@ fn register(regs: &[u64; 32], i: u64) -> u64
     regs[i as usize]
 }
 
+#[tactic(auto, unfolding(crate::specs::Machine::set_reg))]
 pub(crate) fn set_reg(regs: &mut [u64; 32], i: u64, v: u64)
     requires { i < 32 }
     ensures { regs.new ≡ set_reg regs.old i v }
@@ -136,6 +140,7 @@ pub(crate) fn touched(pages: &[u8], used: usize, t: Option<u64>) -> u64
 }
 
 // What the instruction reads beside the eight bytes.
+#[tactic(auto, unfolding(crate::specs::Plan::ins_of))]
 pub(crate) fn ins_of(c: Cpu, regs: &[u64; 32], word: u64, mem: u64) -> Ins
     ensures { result ≡ ins_of c regs.now word mem }
 {
@@ -153,6 +158,7 @@ pub(crate) fn ins_of(c: Cpu, regs: &[u64; 32], word: u64, mem: u64) -> Ins
     }
 }
 
+#[tactic(auto, unfolding(crate::specs::Plan::touch_of))]
 pub(crate) fn touch_of(regs: &[u64; 32], word: u64) -> Option<u64>
     ensures { result ≡ touch_of regs.now word }
 {
@@ -190,6 +196,7 @@ impl Machine<'_, '_, '_, '_, '_, '_> {
         Ok(Answer::Stepped)
     }
 
+    #[tactic(auto, using(crate::proofs::Laws::Dests::kernel_dest, crate::proofs::Laws::Dests::touch_even, crate::proofs::Laws::Plans::exec_refused, crate::proofs::Laws::Plans::exec_call, crate::proofs::Laws::Plans::exec_done), unfolding(crate::specs::Plan::touch_of))]
     fn execute(&mut self, word: u64) -> Result<Answer, Refusal>
         requires { self.old.cpu.hint ≤ room_of self.old.hint.now }
         ensures lent { SameLoans self.old self.new }
@@ -209,6 +216,7 @@ impl Machine<'_, '_, '_, '_, '_, '_> {
     }
 
     // The instruction at pc, once the step is counted.
+    #[tactic(auto, using(crate::proofs::Laws::Plans::step_misaligned, crate::proofs::Laws::Plans::step_planned))]
     fn proceed(&mut self) -> Result<Answer, Refusal>
         requires { self.old.cpu.hint ≤ room_of self.old.hint.now }
         ensures lent { SameLoans self.old self.new }
@@ -222,6 +230,7 @@ impl Machine<'_, '_, '_, '_, '_, '_> {
     }
 
     // One step of a machine that is not refused with 1.
+    #[tactic(auto, using(crate::proofs::Laws::Lent::worked_as, crate::proofs::Laws::Plans::step_exited, crate::proofs::Laws::Plans::step_counted), unfolding(crate::specs::Machine::counted))]
     pub(crate) fn advance(&mut self) -> Made
         requires { self.old.cpu.hint ≤ room_of self.old.hint.now }
         ensures lent { SameLoans self.old self.new }
@@ -248,6 +257,7 @@ impl Machine<'_, '_, '_, '_, '_, '_> {
 }
 
 // Refusal 1, but for the recording buffer.
+#[tactic(auto, using(crate::proofs::Laws::Steps::bad_rules, crate::proofs::Laws::Steps::bad_hint, crate::proofs::Laws::Steps::bad_used))]
 pub(crate) fn bad(c: Cpu, pages: &[u8], used: usize, hint: &[u8]) -> bool
     ensures { (r k o : List ℕ) → result ≡ bad (machine c r k used pages.now hint.now o) }
 {
