@@ -32,29 +32,53 @@ pub(crate) struct Machine<'r, 'k, 'p, 'h, 'o, 'i> {
     pub input: Input<'i>,
 }
 
-impl Machine<'_, '_, '_, '_, '_, '_> {
-    // The word at an aligned pc.
-    pub(crate) fn fetch(&self) -> u64
-        requires { self.now.cpu.pc % 4 ≡ 0 }
-        ensures { result ≡ big 4 (byte_at self.now.pages.now self.now.used) self.now.cpu.pc }
+/// Page records and how many of them are used. Where more are said to be used than there are, every byte is zero.
+#[derive(Clone, Copy)]
+pub(crate) struct Memory<'a> {
+    pub pages: &'a [u8],
+    pub used: usize,
+}
+
+impl Memory<'_> {
+    // The word at an aligned address.
+    #[tactic(auto, using(crate::proofs::Laws::Paging::loaded))]
+    pub(crate) fn word(&self, address: u64) -> u64
+        requires { address % 4 ≡ 0 }
+        ensures { result ≡ big 4 (byte_at self.now.pages.now self.now.used) address }
     {
-        step::fetch(self.pages, self.used, self.cpu.pc)
+        memory::get_word(self.pages, self.used, address).unwrap_or(0)
     }
 
     // The doubleword at an aligned address.
+    #[tactic(auto, using(crate::proofs::Laws::Paging::loaded))]
     pub(crate) fn eight(&self, address: u64) -> u64
         requires { address % 8 ≡ 0 }
         ensures { result ≡ big 8 (byte_at self.now.pages.now self.now.used) address }
     {
-        step::eight(self.pages, self.used, address)
+        memory::get_doubleword(self.pages, self.used, address).unwrap_or(0)
     }
 
-    // The eight bytes that an instruction touches.
+    // The eight bytes that an instruction touches, and 0 where it touches none.
     pub(crate) fn touched(&self, t: Option<u64>) -> u64
         requires { (a : ℕ) → t ≡ Some a → a % 8 ≡ 0 }
         ensures { result ≡ eight_at (byte_at self.now.pages.now self.now.used) t }
     {
-        step::touched(self.pages, self.used, t)
+        match t {
+            None => 0,
+            Some(a) => self.eight(a),
+        }
+    }
+}
+
+impl Machine<'_, '_, '_, '_, '_, '_> {
+    // What a step reads of the page records.
+    pub(crate) fn memory(&self) -> Memory<'_>
+        ensures { (result.pages.now ≡ self.now.pages.now) × (result.used ≡ self.now.used) }
+    {
+        Memory {
+            pages: self.pages,
+            used: self.used,
+        }
     }
 
     // The doubleword stored at an aligned address. Nothing changes where no page record is left for it.

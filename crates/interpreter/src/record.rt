@@ -11,6 +11,7 @@ ghost use Rattle.interpreter.specs.Parts.{seen_call, seen, recording_as};
 use crate::effect::Stop;
 use crate::layout::Layout;
 use crate::linux::Call;
+use crate::machine::Memory;
 use crate::state::{Cpu, State};
 use crate::step::Finished;
 use crate::{cpu, layout, step, syscall};
@@ -146,10 +147,14 @@ fn step_seen(
     requires { (length buf.old ≡ 752) × ((a : ℕ) → t ≡ Some a → a % 8 ≡ 0) }
     ensures { recorded (finished result pages.new hint.new output.new) buf.new ≡ recording_as (machine_of s used pages.old hint.old output.old) buf.old word t (step_def index.now «data».now (machine_of s used pages.old hint.old output.old)) }
 {
-    let old = step::touched(pages, used, t);
+    let old = Memory { pages, used }.touched(t);
     let r = step::step(s, pages, used, hint, output, index, data);
     if r.counts {
-        let new = step::touched(pages, r.used, t);
+        let memory = Memory {
+            pages,
+            used: r.used,
+        };
+        let new = memory.touched(t);
         fill(buf, s, r.state, word, t, old, new);
         return r;
     }
@@ -178,7 +183,7 @@ pub fn step_recorded(
         return step::step(s, pages, used, hint, output, index, data);
     }
     let regs = s.regs;
-    let word = step::fetch(pages, used, c.pc);
+    let word = Memory { pages, used }.word(c.pc);
     let seen = look(c, &regs, word);
     match seen {
         Seen::Wide => step::step(s, pages, used, hint, output, index, data),

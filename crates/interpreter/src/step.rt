@@ -1,7 +1,5 @@
 // One step (cpu.rs).
 ghost use Rattle.std.specs.Prelude.{◌≡◌, ℕ, ◌*◌, ◌/◌, ◌%◌, ◌<◌, ◌≤◌, List, Some};
-ghost use Rattle.pages.specs.Bytes.{big};
-ghost use Rattle.pages.specs.Pages.{byte_at};
 ghost use Rattle.interpreter.specs.Machine.{reg, set_reg, room_of, machine, bad};
 ghost use Rattle.interpreter.specs.Plan.{does, changing, storing, eight_at, ins_of, touch_of, executing, plan};
 ghost use Rattle.interpreter.specs.Step.{values_of, left, refused, putting, working, advance, machine_of, finished, in_place, step_def};
@@ -13,7 +11,6 @@ use crate::isa::IType;
 use crate::machine::{Input, Machine};
 use crate::state::{Cpu, State};
 use crate::{cpu, hint};
-use pages::memory;
 use pages::page::Page;
 
 // What a step answers.
@@ -93,24 +90,6 @@ pub(crate) fn aligned(address: u64) -> u64
     address - address % 8
 }
 
-// The word at an aligned pc.
-#[tactic(auto, using(crate::proofs::Laws::Paging::loaded))]
-pub(crate) fn fetch(pages: &[u8], used: usize, pc: u64) -> u64
-    requires { pc % 4 ≡ 0 }
-    ensures { result ≡ big 4 (byte_at pages.now used) pc }
-{
-    memory::get_word(pages, used, pc).unwrap_or(0)
-}
-
-// The doubleword at an aligned address.
-#[tactic(auto, using(crate::proofs::Laws::Paging::loaded))]
-pub(crate) fn eight(pages: &[u8], used: usize, address: u64) -> u64
-    requires { address % 8 ≡ 0 }
-    ensures { result ≡ big 8 (byte_at pages.now used) address }
-{
-    memory::get_doubleword(pages, used, address).unwrap_or(0)
-}
-
 fn register(regs: &[u64; 32], i: u64) -> u64
     requires { i < 32 }
     ensures { result ≡ reg regs.now i }
@@ -125,17 +104,6 @@ pub(crate) fn set_reg(regs: &mut [u64; 32], i: u64, v: u64)
 {
     if i != 0 {
         regs[i as usize] = v;
-    }
-}
-
-// The eight bytes that an instruction touches.
-pub(crate) fn touched(pages: &[u8], used: usize, t: Option<u64>) -> u64
-    requires { (a : ℕ) → t ≡ Some a → a % 8 ≡ 0 }
-    ensures { result ≡ eight_at (byte_at pages.now used) t }
-{
-    match t {
-        None => 0,
-        Some(a) => eight(pages, used, a),
     }
 }
 
@@ -204,7 +172,7 @@ impl Machine<'_, '_, '_, '_, '_, '_> {
     {
         let c = self.cpu;
         let t = touch_of(self.regs, word);
-        let mem = self.touched(t);
+        let mem = self.memory().touched(t);
         let effect = cpu::kernel(ins_of(c, self.regs, word, mem));
         match effect {
             Ok(e) => self.complete(t, e),
@@ -225,7 +193,8 @@ impl Machine<'_, '_, '_, '_, '_, '_> {
         if self.cpu.pc % 4 != 0 {
             return Err(Refusal::PcMisaligned);
         }
-        let word = self.fetch();
+        let pc = self.cpu.pc;
+        let word = self.memory().word(pc);
         self.execute(word)
     }
 

@@ -65,7 +65,7 @@ impl Machine<'_, '_, '_, '_, '_, '_> {
         ensures machine { worked (Ok Stepped) (held self.new) ≡ working (index_in self.old) (data_in self.old) (held self.old) (λ s. calling s Key) }
     {
         let a1 = self.regs[5];
-        let x = self.eight(step::aligned(a1));
+        let x = self.memory().eight(step::aligned(a1));
         self.keyed_by(x);
     }
 
@@ -127,7 +127,7 @@ impl Machine<'_, '_, '_, '_, '_, '_> {
         let c = self.cpu;
         let n = input::moving(part.len() as u64, c.offset, a1, self.regs[6]);
         let at = step::aligned(a1);
-        let old = self.eight(at);
+        let old = self.memory().eight(at);
         let new = input::merge(old, a1 % 8, part, c.offset, n);
         self.store(at, new)?;
         self.reply(n, 0);
