@@ -20,7 +20,7 @@ const SHORT: usize = 256;
 // A hint's length stands before it.
 const LENGTH: usize = 4;
 
-/// The most bytes that are held.
+/// The most hint bytes that are held: 65,536.
 pub const ROOM: u64 = LONG as u64;
 
 // Hint room: the buffer's length, at most 65,536.

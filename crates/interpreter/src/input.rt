@@ -9,6 +9,7 @@ use pages::bytes;
 #[derive(Clone, Copy, Debug, PartialEq, Eq)]
 pub struct Entry {
     pub start: u64,
+    /// In bytes. It may be any number.
     pub length: u64,
 }
 
@@ -104,6 +105,7 @@ fn content_at(part: &[u8], i: u64) -> u8
     part[(i - 8) as usize]
 }
 
+// A byte at a time: the length and the preimage meet anywhere in these eight, so that slices would be four cases.
 // The eight bytes x with count bytes of what the program reads, from offset on, put in from byte at on.
 #[tactic(auto, using(pages::proofs::Laws::Runs::sets_next, pages::proofs::Laws::Numbers::length_bytes, crate::proofs::Laws::Inputs::bytes_eight, crate::proofs::Laws::Inputs::row_start, crate::proofs::Laws::Inputs::merged_by))]
 pub(crate) fn merge(x: u64, at: u64, part: &[u8], offset: u64, count: u64) -> u64

@@ -25,6 +25,7 @@ impl Layout {
     /// The 32 registers come first.
     pub const PC: usize = 32 * Layout::NUMBER;
 
+    /// Each part follows the one before it.
     pub const NEXT_PC: usize = Layout::PC + Layout::NUMBER;
 
     pub const HI: usize = Layout::NEXT_PC + Layout::NUMBER;
@@ -41,12 +42,14 @@ impl Layout {
 
     pub const KEY: usize = Layout::HINT + Layout::NUMBER;
 
+    /// One byte, 0 or 1.
     pub const EXITED: usize = Layout::KEY + Layout::KEY_SIZE;
 
     pub const CODE: usize = Layout::EXITED + 1;
 
     pub const RULES: usize = Layout::CODE + 1;
 
+    /// Five bytes, all 0.
     pub const SPARE: usize = Layout::RULES + 1;
 
     /// How many bytes a state has: 360.

@@ -4,16 +4,18 @@ ghost use Rattle.interpreter.specs.Calls.{bad_descriptor, mmap, reading, writing
 
 use crate::bits;
 
-/// Errors.
+/// Errors, by number. Constants of types, as in document 01, here and below.
 pub struct Errno;
 
 impl Errno {
+    /// No such descriptor.
     pub const EBADF: u64 = 9;
 
+    /// No such command.
     pub const EINVAL: u64 = 22;
 }
 
-/// Descriptors.
+/// Descriptors, by number.
 pub struct Fd;
 
 impl Fd {
@@ -50,31 +52,32 @@ impl Syscall {
 
     pub const EXIT_GROUP: u64 = 5205;
 
-    // What BRK answers.
+    /// What BRK answers.
     pub const BREAK: u64 = 0x4000_0000;
 
-    // The command of FCNTL that asks for a descriptor's mode.
+    /// The command of FCNTL that asks for a descriptor's mode.
     pub const GETFL: u64 = 3;
 
-    // Heap sizes are multiples of this.
+    /// Heap sizes are multiples of this.
     pub const PAGE: u64 = 4096;
 }
 
 /// Which call it is. What touches no memory is answered already.
 #[derive(Clone, Copy, Debug, PartialEq, Eq)]
 pub enum Call {
-    // The answer, and the error.
+    /// The answer, and the error.
     Answer(u64, u64),
-    // Answers the old heap, which becomes this.
+    /// Answers the old heap, which becomes this.
     Heap(u64),
+    /// With this code.
     Exit(u8),
-    // 5001 on 6.
+    /// 5001 on 6.
     Key,
-    // 5000 on 5.
+    /// 5000 on 5.
     Input,
-    // 5001 on 1 or 2.
+    /// 5001 on 1 or 2.
     Write(u64),
-    // 5001 on 4.
+    /// 5001 on 4.
     Hint,
 }
 

@@ -3,7 +3,7 @@ ghost use Rattle.std.specs.Prelude.{◌≡◌, Some, ℕ, ◌%◌, ◌<◌};
 ghost use Rattle.pages.specs.Bytes.{big};
 ghost use Rattle.pages.specs.Pages.{byte_at};
 ghost use Rattle.pages.specs.Calls.{set_def};
-ghost use Rattle.interpreter.specs.Machine.{answering, set_reg};
+ghost use Rattle.interpreter.specs.Machine.{answering};
 ghost use Rattle.interpreter.specs.Plan.{eight_at};
 ghost use Rattle.interpreter.specs.Lent.{held, SameLoans, with_regs, kept, put_by};
 
@@ -95,17 +95,6 @@ impl Machine<'_, '_, '_, '_, '_, '_> {
                 Ok(())
             }
             Err(_) => Err(Refusal::MemoryFull),
-        }
-    }
-
-    #[tactic(auto, unfolding(crate::specs::Machine::set_reg))]
-    pub(crate) fn set_register(&mut self, i: u64, value: u64)
-        requires { i < 32 }
-        ensures lent { SameLoans self.old self.new }
-        ensures machine { held self.new ≡ with_regs (held self.old) (set_reg self.old.regs.now i value) }
-    {
-        if i != 0 {
-            self.regs[i as usize] = value;
         }
     }
 

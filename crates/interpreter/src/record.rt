@@ -24,14 +24,18 @@ impl Record {
     /// How many spare bytes follow the instruction.
     pub const SPARES: usize = 4;
 
+    /// The state before the step.
     pub const OLD_STATE: usize = 0;
 
+    /// And after it.
     pub const NEW_STATE: usize = Layout::SIZE;
 
+    /// The instruction, in four bytes.
     pub const WORD: usize = Record::NEW_STATE + Layout::SIZE;
 
     pub const SPARE: usize = Record::WORD + 4;
 
+    /// The touched eight bytes' address. It and the eights are 0 where none are touched.
     pub const ADDRESS: usize = Record::SPARE + Record::SPARES;
 
     pub const OLD_EIGHT: usize = Record::ADDRESS + Layout::NUMBER;

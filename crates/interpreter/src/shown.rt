@@ -16,11 +16,12 @@ use crate::{cpu, step, syscall};
 #[derive(Clone, Copy, Debug, PartialEq, Eq)]
 pub struct Shown {
     pub cpu: Cpu,
+    /// The touched eight bytes' address.
     pub touch: Option<u64>,
     pub eight: u64,
 }
 
-/// Why there is none.
+/// Why there is no step that eight bytes show.
 #[derive(Clone, Copy, Debug, PartialEq, Eq)]
 pub enum Unshown {
     /// With 2 to 7.

@@ -5,28 +5,34 @@ ghost use Rattle.interpreter.specs.Machine.{cpu_of, state_of, counted, changed, 
 use crate::bits;
 use crate::effect::Change;
 
-/// The state, with its rules number.
+/// The state, with its rules number: what the 360 bytes hold. Each number is one of 64 bits where nothing else is said.
 #[derive(Clone, Copy, Debug, Default, PartialEq, Eq)]
 pub struct State {
     pub regs: [u64; 32],
+    /// The address of the instruction, and of the one after it.
     pub pc: u64,
     pub next: u64,
     pub hi: u64,
     pub lo: u64,
+    /// Where the next 5009 gives memory.
     pub heap: u64,
+    /// How many steps were counted.
     pub step: u64,
-    // Where in the input the next read starts.
+    /// Where in the input the next read starts.
     pub offset: u64,
-    // How many hint bytes are held.
+    /// How many hint bytes are held.
     pub hint: u64,
     pub key: [u8; 32],
+    /// A flag beside the code, since the 360 bytes hold both: `decode` of `encode` gives back the code that an unexited state has.
     pub exited: bool,
-    // What the exit call left.
+    /// What the exit call left.
     pub code: u8,
+    /// A byte, since refusals 1 and 22 speak of numbers above the largest.
     pub rules: u8,
 }
 
-// A state's numbers, without its registers and key: a step works on these and on lent registers.
+/// A state's numbers, without its registers and key: a step works on these and on lent registers. `State` has them too, since
+/// its fields are public by name.
 #[derive(Clone, Copy, Debug, PartialEq, Eq)]
 pub struct Cpu {
     pub pc: u64,
@@ -87,7 +93,7 @@ impl Cpu {
         }
     }
 
-    // The largest rules number.
+    /// The largest rules number.
     pub const RULES: u8 = 1;
 
     #[tactic(auto, unfolding(crate::specs::Machine::counted))]

@@ -13,27 +13,30 @@ use crate::state::{Cpu, State};
 use crate::{cpu, hint};
 use pages::page::Page;
 
-// What a step answers.
+/// What a step answers (document 01).
 #[derive(Clone, Copy, Debug, PartialEq, Eq)]
 pub enum Answer {
     Stepped,
-    // Stream and count.
+    /// Stream, 1 or 2, and how many bytes stand at the output's front.
     Wrote(u64, u64),
-    // The hint's bytes, without its length.
+    /// How many bytes the hint at the output's front has, without its length.
     Hint(u64),
+    /// The exit code.
     Exited(u8),
     Refused(Refusal),
 }
 
-// An answer in document 01's numbers: which one it is, counted from 0 in document 01's order, and its values.
+/// An answer in document 01's numbers: which one it is, counted from 0 in document 01's order, and its values.
 #[derive(Clone, Copy, Debug, PartialEq, Eq)]
 pub struct Values {
+    /// A number, since it is the result of the calls from C.
     pub kind: u8,
     pub first: u64,
     pub second: u64,
 }
 
 impl Answer {
+    /// The answer in numbers. A value that it does not have is 0.
     #[tactic(auto, unfolding(crate::specs::Step::values_of))]
     pub fn values(self) -> Values
         ensures { result ≡ values_of self }
@@ -65,17 +68,17 @@ pub(crate) struct Made {
     pub counts: bool,
 }
 
-// What the step by value leaves beside the lent bytes.
+/// What the step by value leaves beside the lent bytes.
 #[derive(Clone, Copy, Debug, PartialEq, Eq)]
 pub struct Finished {
     pub answer: Answer,
     pub state: State,
     pub used: usize,
-    // Whether it was an unrefused step from an unexited state.
+    /// Whether it was an unrefused step from an unexited state.
     pub counts: bool,
 }
 
-// What the step in place leaves beside the lent machine: the same without the state.
+/// What the step in place leaves beside the lent machine: the same without the state.
 #[derive(Clone, Copy, Debug, PartialEq, Eq)]
 pub struct InPlace {
     pub answer: Answer,
@@ -159,7 +162,8 @@ impl Machine<'_, '_, '_, '_, '_, '_> {
         ensures machine { worked result (held self.new) ≡ working (index_in self.old) (data_in self.old) (held self.old) (λ v. does (changing v t e)) }
     {
         self.settle(t, e)?;
-        self.set_register(e.dest, e.value);
+        let regs = &mut *self.regs;
+        set_reg(regs, e.dest, e.value);
         self.cpu = self.cpu.changed(e);
         Ok(Answer::Stepped)
     }
@@ -251,7 +255,8 @@ pub(crate) fn unstepped(s: State, used: usize) -> Finished
     }
 }
 
-// One step, by value.
+/// One step, by value. Refused with 1 where the rules number or the hint length is too large, or more page records are said to be
+/// used than the slice has. A refusal changes no lent byte.
 pub fn step(
     s: State,
     pages: &mut [u8],
@@ -290,7 +295,7 @@ pub fn step(
     }
 }
 
-// The same on a lent machine, stepped where it is.
+/// The same on a lent machine, stepped where it is.
 pub fn step_in_place(
     s: &mut State,
     pages: &mut [u8],
