@@ -1,5 +1,5 @@
 -- UTF-8: the table's texts are the texts of std's characters.
-use Rattle.std.proofs.Common.{◌≡◌, ℕ, zero, suc, ◌+◌, ◌-◌, ◌*◌, ◌/◌, ◌%◌, ◌<◌, ◌≤◌, ◌⊎◌, Bool, true, false, cond, ◌&&◌, ◌||◌, eqb, ltb, leb, List, [], ◌∷◌, ◌++◌, length, take, drop, IsUtf8, is_ok, Result, Ok, Err, MatchResult, sym, refl, ap, subst, ◌∙◌, arith, le-leb, ne_eqb, le-ltb, lt-ltb, eq-eqb, ltb-true}
+use Rattle.std.proofs.Common.{◌≡◌, ℕ, zero, suc, ◌+◌, ◌-◌, ◌*◌, ◌/◌, ◌<◌, ◌≤◌, ◌⊎◌, Bool, true, false, cond, ◌&&◌, ◌||◌, eqb, ltb, leb, List, [], ◌∷◌, ◌++◌, length, take, drop, IsUtf8, is_ok, Result, Ok, Err, MatchResult, sym, refl, subst, ◌∙◌, arith, le-leb, ne_eqb, le-ltb, lt-ltb, ltb-true}
 use Rattle.std.proofs.lemmas.Bool.{leb-true, lt-leb}
 use Rattle.std.proofs.lemmas.Str.{IsUtf8-nil, IsUtf8-append, IsUtf8-encode}
 use Rattle.std.proofs.lemmas.List.{take-append-drop, length-append}
@@ -99,7 +99,6 @@ module _ (b : ℕ) (t : List ℕ) where
   pub lead_f4 : 0xf4 ≤ b → b ≤ 0xf4 → character (b ∷ t) ≡ cond (begins (0x80 to 0x8f ∷ 0x80 to 0xbf ∷ 0x80 to 0xbf ∷ []) t) 4 0
   unfolding character rows outside
   lead_f4 h k = hit 0xf4 0xf4 b t h k (take 8 rows) (0x80 to 0x8f ∷ 0x80 to 0xbf ∷ 0x80 to 0xbf ∷ []) [] refl refl
-
 
 -- ---- std's characters, by their size
 
@@ -218,17 +217,34 @@ AllGood (r ∷ rs) = Good r × AllGood rs
 
 good_rows : AllGood rows
 unfolding rows AllGood
-good_rows =
-    ((λ t e. by_one t (within _ t e)),
-    ((λ t e. by_two t (within _ t e)),
-    ((λ t e. by_three 0xe0 0xe0 0xa0 0xbf (omega arith) (omega arith) (omega arith) (omega arith) (omega arith) (inl (omega arith)) t (within _ t e)),
-    ((λ t e. by_three 0xe1 0xec 0x80 0xbf (omega arith) (omega arith) (omega arith) (omega arith) (omega arith) (inl (omega arith)) t (within _ t e)),
-    ((λ t e. by_three 0xed 0xed 0x80 0x9f (omega arith) (omega arith) (omega arith) (omega arith) (omega arith) (inl (omega arith)) t (within _ t e)),
-    ((λ t e. by_three 0xee 0xef 0x80 0xbf (omega arith) (omega arith) (omega arith) (omega arith) (omega arith) (inr (omega arith)) t (within _ t e)),
-    ((λ t e. by_four 0xf0 0xf0 0x90 0xbf (omega arith) (omega arith) (omega arith) (omega arith) (omega arith) t (within _ t e)),
-    ((λ t e. by_four 0xf1 0xf3 0x80 0xbf (omega arith) (omega arith) (omega arith) (omega arith) (omega arith) t (within _ t e)),
-    ((λ t e. by_four 0xf4 0xf4 0x80 0x8f (omega arith) (omega arith) (omega arith) (omega arith) (omega arith) t (within _ t e)),
-    tt)))))))))
+good_rows = (
+  (λ t e. by_one t (within _ t e)),
+  (
+    (λ t e. by_two t (within _ t e)),
+    (
+      (λ t e. by_three 0xe0 0xe0 0xa0 0xbf (omega arith) (omega arith) (omega arith) (omega arith) (omega arith) (inl (omega arith)) t (within _ t e)),
+      (
+        (λ t e. by_three 0xe1 0xec 0x80 0xbf (omega arith) (omega arith) (omega arith) (omega arith) (omega arith) (inl (omega arith)) t (within _ t e)),
+        (
+          (λ t e. by_three 0xed 0xed 0x80 0x9f (omega arith) (omega arith) (omega arith) (omega arith) (omega arith) (inl (omega arith)) t (within _ t e)),
+          (
+            (λ t e. by_three 0xee 0xef 0x80 0xbf (omega arith) (omega arith) (omega arith) (omega arith) (omega arith) (inr (omega arith)) t (within _ t e)),
+            (
+              (λ t e. by_four 0xf0 0xf0 0x90 0xbf (omega arith) (omega arith) (omega arith) (omega arith) (omega arith) t (within _ t e)),
+              (
+                (λ t e. by_four 0xf1 0xf3 0x80 0xbf (omega arith) (omega arith) (omega arith) (omega arith) (omega arith) t (within _ t e)),
+                (
+                  (λ t e. by_four 0xf4 0xf4 0x80 0x8f (omega arith) (omega arith) (omega arith) (omega arith) (omega arith) t (within _ t e)),
+                  tt,
+                ),
+              ),
+            ),
+          ),
+        ),
+      ),
+    ),
+  ),
+)
 
 good_row : (rs : List (List Range)) → AllGood rs → (t : List ℕ) → IsUtf8 (take (first_row rs t) t)
 unfolding first_row AllGood

@@ -1,5 +1,5 @@
 use Rattle.pages.specs.Pages.{byte_at}
-use Rattle.interpreter.proofs.Laws.Hints.{lay_keep, lay_out}
+use Rattle.interpreter.proofs.Laws.Hints.{lay_out}
 use Rattle.interpreter.proofs.hint.append.Goals as goal
 
 pub returns-in-Some : goal.returns-in-Some

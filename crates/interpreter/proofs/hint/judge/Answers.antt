@@ -1,6 +1,6 @@
 use Rattle.std.proofs.Common.{le-leb}
 use borrow.Author.Tests.{lt-leb}
-use Rattle.interpreter.proofs.Laws.Hints.{word_announced, text_valid, heard_few, heard_short, heard_long, heard_text, heard_full, heard_out}
+use Rattle.interpreter.proofs.Laws.Hints.{word_announced, text_valid, heard_text, heard_full, heard_out}
 use Rattle.interpreter.proofs.hint.judge.Goals as goal
 
 pub returns-then-not-valid : goal.returns-then-not-valid

@@ -1,7 +1,5 @@
-use Rattle.std.proofs.Common.{length, ap, ◌∙◌, arith, length-set}
+use Rattle.std.proofs.Common.{length-set}
 use Rattle.pages.proofs.Laws.Runs.{sets_next}
-use Rattle.pages.proofs.Laws.Numbers.{length_bytes}
-use Rattle.interpreter.proofs.Laws.Inputs.{bytes_eight, row_start, merged_by}
 use Rattle.interpreter.proofs.input.merge.Goals as goal
 
 pub loop-i-preserved : goal.loop-i-preserved

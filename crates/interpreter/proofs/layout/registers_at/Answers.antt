@@ -1,7 +1,7 @@
 use Rattle.std.proofs.Common.{◌≡◌, ◌+◌, ◌*◌, ◌∙◌, arith, length-set}
 use Rattle.pages.proofs.Laws.Places.{number_fits}
 use Rattle.interpreter.specs.Layout.{eight}
-use Rattle.interpreter.proofs.Laws.Layout.{numbers_is, set_more}
+use Rattle.interpreter.proofs.Laws.Layout.{set_more}
 use Rattle.interpreter.proofs.layout.registers_at.Goals as goal
 
 pub loop-i-preserved : goal.loop-i-preserved

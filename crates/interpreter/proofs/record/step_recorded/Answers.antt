@@ -1,4 +1,4 @@
-use Rattle.interpreter.proofs.Laws.Recorder.{touched_even, record_short, record_misaligned, record_wide, record_done}
+use Rattle.interpreter.proofs.Laws.Recorder.{record_short}
 use Rattle.interpreter.proofs.record.step_recorded.Goals as goal
 
 pub returns-then-buf-ne-SIZE : goal.returns-then-buf-ne-SIZE

@@ -1,5 +1,5 @@
 use Rattle.std.proofs.Common.{rules, sym, ◌∙◌}
-use Rattle.interpreter.proofs.Laws.Shown.{shown_as, reply_made, heap_made, exit_made, key_made, input_made, write_made, hint_made}
+use Rattle.interpreter.proofs.Laws.Shown.{shown_as, reply_made, heap_made, exit_made, key_made}
 use Rattle.interpreter.proofs.shown.call.Goals as goal
 
 pub returns-in-Answer : goal.returns-in-Answer

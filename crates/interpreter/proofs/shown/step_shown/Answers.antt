@@ -1,6 +1,4 @@
-use Rattle.std.proofs.Common.{Err, ap, ◌∙◌}
-use Rattle.interpreter.proofs.Laws.Dests.{kernel_dest}
-use Rattle.interpreter.proofs.Laws.Shown.{shown_refused, shown_call, shown_done}
+use Rattle.interpreter.proofs.Laws.Shown.{shown_done}
 use Rattle.interpreter.proofs.shown.step_shown.Goals as goal
 
 pub returns-in-Ok : goal.returns-in-Ok

@@ -1,6 +1,4 @@
-use Rattle.std.proofs.Common.{sym, ap, Err, ◌∙◌}
-use Rattle.interpreter.specs.Plan.{touch_of}
-use Rattle.interpreter.proofs.Laws.Dests.{kernel_dest, touch_even}
+use Rattle.std.proofs.Common.{ap, Err, ◌∙◌}
 use Rattle.interpreter.proofs.Laws.Plans.{exec_refused, exec_call, exec_done}
 use Rattle.interpreter.proofs.machine.Machine.execute.Goals as goal
 

@@ -1,6 +1,5 @@
 use Rattle.std.proofs.Common.{◌≡◌, rules, Err, ◌∙◌}
 use Rattle.interpreter.proofs.Laws.Lent.{worked_as}
-use Rattle.interpreter.proofs.Laws.Inputs.{moving_fits}
 use Rattle.interpreter.proofs.Laws.Plans.{read_done, read_full}
 use Rattle.interpreter.proofs.machine.Machine.read_bytes.Goals as goal
 

@@ -1,4 +1,4 @@
-use Rattle.interpreter.proofs.Laws.Plans.{input_absent, input_outside, input_part}
+use Rattle.interpreter.proofs.Laws.Plans.{input_part}
 use Rattle.interpreter.proofs.machine.Machine.read_input.Goals as goal
 
 pub returns-clause-machine : goal.returns-clause-machine
