@@ -23,7 +23,7 @@ use Rattle.interpreter.specs.Recording.{calls, wide, touched}
 use Rattle.interpreter.specs.Ideal.{ideal_view, follow, ideal_step}
 use Rattle.interpreter.specs.Shown.{effect_shown, plan_shown}
 use Rattle.checker.specs.Verdicts.{Verdict}
-use Rattle.checker.specs.Verdicts.{Accepted, Refused}
+use Rattle.checker.specs.Verdicts.{Accepted}
 use Rattle.checker.specs.Records.{old_in, new_in, word_in, address_in, old_eight, new_eight, touch_in, effect_in, plan_in}
 use Rattle.checker.specs.Check.{wrong_length, malformed, exited_in, refused_in, wide_in, misplaced, same_numbers, same_state, differs, applies, first_fault, check_def}
 use Rattle.checker.specs.Examples.{result_discrete, Example, executes, accepts, record14, examples, start_regs, step_of, comes, Says, Every}

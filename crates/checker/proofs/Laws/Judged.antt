@@ -6,7 +6,6 @@ use Rattle.pages.specs.Calls.{number_at}
 use Rattle.pages.proofs.Laws.Places.{number_fits}
 use Rattle.interpreter.specs.Effects.{Effect}
 use Rattle.interpreter.specs.declared.effect.Stop.TheVariants.{Refused as RefusedBy, Call as CallBy}
-use Rattle.interpreter.specs.declared.effect.Refusal.{Refusal}
 use Rattle.interpreter.specs.declared.shown.Shown.{Shown}
 use Rattle.interpreter.specs.declared.shown.Unshown.{Unshown}
 use Rattle.interpreter.specs.declared.shown.Unshown.TheVariants.{Refused as RefusedStep, Wide}

@@ -1,17 +1,13 @@
 -- Two states that are the same in every field are one.
-use Rattle.std.proofs.Common.{◌≡◌, refl, sym, ap, ◌∙◌, Bool, true, false, not, List, ℕ, zero, suc, ◌+◌, ◌≤◌, ◌<◌, zero-add, arith, length, eq-eqb, eqb-true, ◌&&◌, eqb}
+use Rattle.std.proofs.Common.{◌≡◌, refl, sym, ap, ◌∙◌, Bool, true, false, not, List, ℕ, arith, length, eq-eqb, eqb-true, ◌&&◌, eqb}
 use Rattle.std.proofs.Math.Bool.{beq}
-use Rattle.std.proofs.Math.Decide.{dec_lt}
 use Rattle.std.specs.Str.{bytes_eq}
 use Rattle.std.proofs.lemmas.Slice.Eq.{bytes_eq-Decides}
 use Rattle.pages.specs.Bytes.{cell}
-use Rattle.pages.proofs.Laws.Runs.{row_ext}
-use Rattle.pages.proofs.Laws.Places.{row_whole}
 use Rattle.interpreter.specs.declared.state.Cpu.{Cpu}
 use Rattle.interpreter.specs.declared.state.State.{State}
 use Rattle.interpreter.specs.Machine.{reg, cpu_of, state_of}
-use Rattle.interpreter.specs.Inputs.{same}
-use Rattle.interpreter.proofs.Laws.Tests.{no_true, both, on, off}
+use Rattle.interpreter.proofs.Laws.Tests.{no_true, both, on}
 use Rattle.interpreter.proofs.Laws.Inputs.{same_self, same_list}
 use Rattle.interpreter.proofs.Laws.Layout.{state_parts}
 use Rattle.checker.specs.declared.verdict.Fault.{Fault}

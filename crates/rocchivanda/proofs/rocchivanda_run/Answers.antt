@@ -1,4 +1,4 @@
-use Rattle.rocchivanda.proofs.Laws.Calls.{decoded, run_few, run_none, run_done}
+use Rattle.rocchivanda.proofs.Laws.Calls.{run_done}
 use Rattle.rocchivanda.proofs.rocchivanda_run.Goals as goal
 
 pub returns : goal.returns

@@ -1,4 +1,4 @@
-use Rattle.rocchivanda.proofs.Laws.Calls.{decoded, step_few, step_none, step_done}
+use Rattle.rocchivanda.proofs.Laws.Calls.{step_done}
 use Rattle.rocchivanda.proofs.rocchivanda_step.Goals as goal
 
 pub returns : goal.returns

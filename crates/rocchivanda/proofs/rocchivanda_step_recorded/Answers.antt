@@ -1,4 +1,4 @@
-use Rattle.rocchivanda.proofs.Laws.Calls.{decoded, record_few, record_none, record_done}
+use Rattle.rocchivanda.proofs.Laws.Calls.{record_done}
 use Rattle.rocchivanda.proofs.rocchivanda_step_recorded.Goals as goal
 
 pub returns : goal.returns

@@ -1,4 +1,4 @@
-use Rattle.checker.proofs.Laws.Judged.{old_as_shown, new_as_shown, check_long, check_old, check_new, check_spare, check_step}
+use Rattle.checker.proofs.Laws.Judged.{check_step}
 use Rattle.checker.proofs.check.check.Goals as goal
 
 pub returns : goal.returns

@@ -1,6 +1,6 @@
 use Rattle.std.proofs.Common.{arith}
-use Rattle.checker.proofs.Laws.Judged.{result_state, result_eight, result_same}
-use Rattle.checker.proofs.Laws.Same.{not_state, tested_same, tested_not}
+use Rattle.checker.proofs.Laws.Judged.{result_state}
+use Rattle.checker.proofs.Laws.Same.{not_state, tested_not}
 use Rattle.checker.proofs.check.judge_result.Goals as goal
 
 pub returns-then-ne : goal.returns-then-ne
