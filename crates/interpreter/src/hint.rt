@@ -107,7 +107,9 @@ fn append(
     }
 }
 
-// A write that makes a text of at most N bytes.
+// A write that makes a text of at most N bytes. A function of its own: as a part of the step it would make every system call
+// touch the stack that only a long text needs.
+#[inline(never)]
 #[tactic(auto, using(crate::proofs::Laws::Hints::lay_refuse, crate::proofs::Laws::Hints::lay_done))]
 fn listen_in<const N: usize>(
     pages: &[u8],
@@ -128,9 +130,7 @@ fn listen_in<const N: usize>(
     Ok(handed)
 }
 
-// A write of count bytes from the address on to the hint descriptor. A refusal changes no byte. `listen_in::<LONG>` stands in two
-// places, so that the compiler leaves it a function of its own: as a part of the step it would make every system call touch the
-// stack that only a long text needs.
+// A write of count bytes from the address on to the hint descriptor. A refusal changes no byte.
 #[tactic(auto, using(crate::proofs::Laws::Hints::room_enough, crate::proofs::Laws::Hints::listening_over, crate::proofs::Laws::Hints::listening_heard))]
 pub(crate) fn listen(
     pages: &[u8],
@@ -149,9 +149,6 @@ pub(crate) fn listen(
     }
     let kept = held as usize;
     let more = count as usize;
-    if SHORT < more {
-        return listen_in::<LONG>(pages, used, hint, kept, address, more, output);
-    }
     if SHORT < kept + more {
         return listen_in::<LONG>(pages, used, hint, kept, address, more, output);
     }
