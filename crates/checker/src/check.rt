@@ -11,6 +11,7 @@ use interpreter::{layout, shown};
 use pages::bytes;
 
 // The address is the touched one; without a touch the last 24 bytes are zero.
+#[tactic(auto, using(crate::proofs::Laws::Judged::placed_eight, crate::proofs::Laws::Judged::placed_address, crate::proofs::Laws::Judged::placed_old, crate::proofs::Laws::Judged::placed_new))]
 fn placed(record: &[u8], t: Option<u64>) -> bool
     requires { length «record».now ≡ 752 }
     ensures { result ≡ placed «record».now t }
@@ -18,19 +19,16 @@ fn placed(record: &[u8], t: Option<u64>) -> bool
     let address = bytes::doubleword_at(record, Record::ADDRESS);
     match t {
         None => {
-            if address != 0 {
-                return false;
-            }
-            if bytes::doubleword_at(record, Record::OLD_EIGHT) != 0 {
-                return false;
-            }
-            bytes::doubleword_at(record, Record::NEW_EIGHT) == 0
+            address == 0
+                && bytes::doubleword_at(record, Record::OLD_EIGHT) == 0
+                && bytes::doubleword_at(record, Record::NEW_EIGHT) == 0
         }
         Some(a) => address == a,
     }
 }
 
 // Where pc lies in the touched doubleword, the old bytes hold the instruction.
+#[tactic(auto, using(crate::proofs::Laws::Judged::agrees_there))]
 fn agrees(record: &[u8], pc: u64, word: u64, t: Option<u64>) -> bool
     requires { (length «record».now ≡ 752) × (word ≡ word_in «record».now) }
     ensures { result ≡ agrees «record».now pc t }
@@ -48,6 +46,7 @@ fn agrees(record: &[u8], pc: u64, word: u64, t: Option<u64>) -> bool
 }
 
 // What the step left: a state, and the touched eight bytes y.
+#[tactic(auto, using(crate::proofs::Laws::Judged::result_state, crate::proofs::Laws::Judged::result_eight, crate::proofs::Laws::Judged::result_same, crate::proofs::Laws::Same::not_state, crate::proofs::Laws::Same::tested_same, crate::proofs::Laws::Same::tested_not))]
 fn judge_result(record: &[u8], new: State, left: State, y: u64) -> Result<(), Fault>
     requires { length «record».now ≡ 752 }
     ensures { result ≡ result_judged «record».now new left y }
@@ -85,6 +84,7 @@ fn judge_step(record: &[u8], s: State, n: State) -> Result<(), Fault>
 }
 
 /// The checker: refusals 21 to 27, and the first that applies.
+#[tactic(auto, using(crate::proofs::Laws::Judged::old_as_shown, crate::proofs::Laws::Judged::new_as_shown, crate::proofs::Laws::Judged::check_long, crate::proofs::Laws::Judged::check_old, crate::proofs::Laws::Judged::check_new, crate::proofs::Laws::Judged::check_spare, crate::proofs::Laws::Judged::check_step))]
 pub fn check(record: &[u8]) -> Result<(), Fault>
     ensures { result ≡ check_def «record».now }
 {

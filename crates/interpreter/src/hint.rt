@@ -20,10 +20,11 @@ const SHORT: usize = 256;
 // A hint's length stands before it.
 const LENGTH: usize = 4;
 
-/// The most bytes that are held.
+/// The most hint bytes that are held: 65,536.
 pub const ROOM: u64 = LONG as u64;
 
 // Hint room: the buffer's length, at most 65,536.
+#[tactic(auto, using(crate::proofs::Laws::Hints::room_least))]
 pub(crate) fn room_of(hint: &[u8]) -> u64
     ensures { result ≡ room_of hint.now }
 {
@@ -39,6 +40,7 @@ fn overflows(hint: &[u8], held: u64, count: u64) -> bool
 }
 
 // What is done with a text, where so many bytes of output have room: it is kept, or a hint of so many bytes is handed out.
+#[tactic(auto, using(crate::proofs::Laws::Hints::word_announced, crate::proofs::Laws::Hints::text_valid, crate::proofs::Laws::Hints::heard_few, crate::proofs::Laws::Hints::heard_short, crate::proofs::Laws::Hints::heard_long, crate::proofs::Laws::Hints::heard_text, crate::proofs::Laws::Hints::heard_full, crate::proofs::Laws::Hints::heard_out))]
 fn judge(text: &[u8], room: usize) -> Result<Option<u64>, Refusal>
     ensures { result ≡ heard text.now (λ n. nat_le n room) }
 {
@@ -63,6 +65,7 @@ fn judge(text: &[u8], room: usize) -> Result<Option<u64>, Refusal>
 }
 
 // The same of the held bytes with the appended ones behind them, put together in a text that has room: no buffer is changed yet.
+#[tactic(auto, using(crate::proofs::Laws::Hints::joined_copied))]
 fn judge_in(
     text: &mut [u8],
     pages: &[u8],
@@ -83,6 +86,7 @@ fn judge_in(
 }
 
 // The bytes are appended, and a hint of so many bytes that is handed out is copied to the front of the output.
+#[tactic(auto, using(crate::proofs::Laws::Hints::lay_keep, crate::proofs::Laws::Hints::lay_out))]
 fn append(
     pages: &[u8],
     used: usize,
@@ -103,7 +107,10 @@ fn append(
     }
 }
 
-// A write that makes a text of at most N bytes.
+// A write that makes a text of at most N bytes. A function of its own: as a part of the step it would make every system call
+// touch the stack that only a long text needs.
+#[inline(never)]
+#[tactic(auto, using(crate::proofs::Laws::Hints::lay_refuse, crate::proofs::Laws::Hints::lay_done))]
 fn listen_in<const N: usize>(
     pages: &[u8],
     used: usize,
@@ -123,9 +130,8 @@ fn listen_in<const N: usize>(
     Ok(handed)
 }
 
-// A write of count bytes from the address on to the hint descriptor. A refusal changes no byte. `listen_in::<LONG>` stands in two
-// places, so that the compiler leaves it a function of its own: as a part of the step it would make every system call touch the
-// stack that only a long text needs.
+// A write of count bytes from the address on to the hint descriptor. A refusal changes no byte.
+#[tactic(auto, using(crate::proofs::Laws::Hints::room_enough, crate::proofs::Laws::Hints::listening_over, crate::proofs::Laws::Hints::listening_heard))]
 pub(crate) fn listen(
     pages: &[u8],
     used: usize,
@@ -143,9 +149,6 @@ pub(crate) fn listen(
     }
     let kept = held as usize;
     let more = count as usize;
-    if SHORT < more {
-        return listen_in::<LONG>(pages, used, hint, kept, address, more, output);
-    }
     if SHORT < kept + more {
         return listen_in::<LONG>(pages, used, hint, kept, address, more, output);
     }

@@ -9,6 +9,7 @@ use pages::bytes;
 #[derive(Clone, Copy, Debug, PartialEq, Eq)]
 pub struct Entry {
     pub start: u64,
+    /// In bytes. It may be any number.
     pub length: u64,
 }
 
@@ -30,6 +31,7 @@ fn has_key(index: &[u8], key: &[u8; 32], i: usize) -> bool
 }
 
 /// The first whole record with the key.
+#[tactic(auto, using(crate::proofs::Laws::Inputs::entry_all, crate::proofs::Laws::Inputs::entry_read, crate::proofs::Laws::Inputs::entry_next, crate::proofs::Laws::Inputs::entry_none))]
 pub fn entry_of(index: &[u8], key: &[u8; 32]) -> Option<Entry>
     ensures { result ≡ entry_of index.now key.now }
 {
@@ -57,6 +59,7 @@ pub fn inside(data: &[u8], start: u64, n: u64) -> bool
 }
 
 /// The preimage as a part of the data, and the empty part where it does not lie inside.
+#[tactic(auto, using(crate::proofs::Laws::Inputs::part_in, crate::proofs::Laws::Inputs::part_out))]
 pub fn part_of(data: &[u8], start: u64, n: u64) -> &[u8]
     ensures { result.now ≡ part_def «data».now start n }
 {
@@ -81,6 +84,7 @@ fn left(n: u64, offset: u64) -> u64
 }
 
 // How many bytes a read moves.
+#[tactic(auto, unfolding(crate::specs::Inputs::moving))]
 pub(crate) fn moving(n: u64, offset: u64, a1: u64, a2: u64) -> u64
     requires { offset ≤ 8 + n }
     ensures { result ≡ moving n offset a1 a2 }
@@ -89,6 +93,7 @@ pub(crate) fn moving(n: u64, offset: u64, a1: u64, a2: u64) -> u64
 }
 
 // One byte of what the program reads: the preimage's length, then the preimage.
+#[tactic(auto, using(crate::proofs::Laws::Inputs::bytes_eight, crate::proofs::Laws::Inputs::content_front, crate::proofs::Laws::Inputs::content_back))]
 fn content_at(part: &[u8], i: u64) -> u8
     requires { i < 8 + length part.now }
     ensures { result ≡ cell (content part.now) i }
@@ -100,7 +105,9 @@ fn content_at(part: &[u8], i: u64) -> u8
     part[(i - 8) as usize]
 }
 
+// A byte at a time: the length and the preimage meet anywhere in these eight, so that slices would be four cases.
 // The eight bytes x with count bytes of what the program reads, from offset on, put in from byte at on.
+#[tactic(auto, using(pages::proofs::Laws::Runs::sets_next, pages::proofs::Laws::Numbers::length_bytes, crate::proofs::Laws::Inputs::bytes_eight, crate::proofs::Laws::Inputs::row_start, crate::proofs::Laws::Inputs::merged_by))]
 pub(crate) fn merge(x: u64, at: u64, part: &[u8], offset: u64, count: u64) -> u64
     requires { (at + count ≤ 8) × (offset + count ≤ 8 + length part.now) }
     ensures { result ≡ merged x at (moved part.now offset count) }

@@ -25,6 +25,7 @@ impl Layout {
     /// The 32 registers come first.
     pub const PC: usize = 32 * Layout::NUMBER;
 
+    /// Each part follows the one before it.
     pub const NEXT_PC: usize = Layout::PC + Layout::NUMBER;
 
     pub const HI: usize = Layout::NEXT_PC + Layout::NUMBER;
@@ -41,12 +42,14 @@ impl Layout {
 
     pub const KEY: usize = Layout::HINT + Layout::NUMBER;
 
+    /// One byte, 0 or 1.
     pub const EXITED: usize = Layout::KEY + Layout::KEY_SIZE;
 
     pub const CODE: usize = Layout::EXITED + 1;
 
     pub const RULES: usize = Layout::CODE + 1;
 
+    /// Five bytes, all 0.
     pub const SPARE: usize = Layout::RULES + 1;
 
     /// How many bytes a state has: 360.
@@ -56,6 +59,7 @@ impl Layout {
     pub const LAST: usize = Layout::SIZE - 1;
 }
 
+#[tactic(auto, using(crate::proofs::Laws::Layout::put_eight), unfolding(crate::specs::Layout::eights))]
 fn put_registers(buf: &mut [u8], at: usize, regs: &[u64; 32])
     requires { at + 256 ≤ length buf.old }
     ensures { buf.new ≡ sets buf.old at (eights regs.now 32) }
@@ -65,6 +69,7 @@ fn put_registers(buf: &mut [u8], at: usize, regs: &[u64; 32])
     }
 }
 
+#[tactic(auto, using(crate::proofs::Laws::Layout::put_eights))]
 fn put_numbers(buf: &mut [u8], at: usize, c: Cpu)
     requires { at + 360 ≤ length buf.old }
     ensures { buf.new ≡ sets buf.old (at + 256) (eights (numbers_of c) 8) }
@@ -79,6 +84,7 @@ fn put_numbers(buf: &mut [u8], at: usize, c: Cpu)
     bytes::put_doubleword(buf, at + Layout::HINT, c.hint);
 }
 
+#[tactic(auto, using(pages::proofs::Laws::Places::copy_fits))]
 fn put_key(buf: &mut [u8], at: usize, key: &[u8; 32])
     requires { at + 32 ≤ length buf.old }
     ensures { buf.new ≡ sets buf.old at (row (cell key.now) 0 32) }
@@ -86,6 +92,7 @@ fn put_key(buf: &mut [u8], at: usize, key: &[u8; 32])
     bytes::copy(key, 0, buf, at, Layout::KEY_SIZE);
 }
 
+#[tactic(auto, using(crate::proofs::Laws::Layout::flag_byte, crate::proofs::Laws::Layout::put_last))]
 fn put_last(buf: &mut [u8], at: usize, c: Cpu)
     requires { at + 360 ≤ length buf.old }
     ensures { buf.new ≡ sets buf.old (at + 352) (last_of c) }
@@ -97,6 +104,7 @@ fn put_last(buf: &mut [u8], at: usize, c: Cpu)
 }
 
 // The bytes of the state of such numbers, registers and key, to buf from a place on.
+#[tactic(auto, using(crate::proofs::Laws::Layout::put_parts))]
 pub(crate) fn put_state(buf: &mut [u8], at: usize, c: Cpu, regs: &[u64; 32], key: &[u8; 32])
     requires { at + 360 ≤ length buf.old }
     ensures { buf.new ≡ sets buf.old at (encode (state_of c regs.now key.now)) }
@@ -107,6 +115,7 @@ pub(crate) fn put_state(buf: &mut [u8], at: usize, c: Cpu, regs: &[u64; 32], key
     put_last(buf, at, c);
 }
 
+#[tactic(auto, using(pages::proofs::Laws::Places::number_fits, crate::proofs::Laws::Layout::numbers_is, crate::proofs::Laws::Layout::set_more))]
 fn registers_at(b: &[u8], k: usize) -> [u64; 32]
     requires { k + 256 ≤ length b.now }
     ensures { result ≡ numbers b.now k 32 }
@@ -128,6 +137,7 @@ fn key_at(b: &[u8], k: usize) -> [u8; 32]
 }
 
 // The state in the 360 bytes from a place on.
+#[tactic(auto, using(crate::proofs::Laws::Layout::state_is), unfolding(crate::specs::Machine::state_of))]
 pub(crate) fn state_at(b: &[u8], k: usize) -> State
     requires { k + 360 ≤ length b.now }
     ensures { result ≡ decode_at b.now k }
@@ -152,26 +162,20 @@ pub(crate) fn state_at(b: &[u8], k: usize) -> State
 }
 
 // Whether the 360 bytes from a place on are a state's: exited, the spare bytes, rules and hint length.
+#[tactic(auto, using(crate::proofs::Laws::Layout::formed_exited, crate::proofs::Laws::Layout::formed_spare, crate::proofs::Laws::Layout::formed_last, crate::proofs::Laws::Layout::formed_rules, crate::proofs::Laws::Layout::formed_hint))]
 pub(crate) fn formed_at(b: &[u8], k: usize) -> bool
     requires { k + 360 ≤ length b.now }
     ensures { result ≡ formed_at b.now k }
 {
-    if b[k + Layout::EXITED] > 1 {
-        return false;
-    }
-    if bytes::word_at(b, k + Layout::SPARE) != 0 {
-        return false;
-    }
-    if b[k + Layout::LAST] != 0 {
-        return false;
-    }
-    if b[k + Layout::RULES] > Cpu::RULES {
-        return false;
-    }
-    bytes::doubleword_at(b, k + Layout::HINT) <= hint::ROOM
+    b[k + Layout::EXITED] <= 1
+        && bytes::word_at(b, k + Layout::SPARE) == 0
+        && b[k + Layout::LAST] == 0
+        && b[k + Layout::RULES] <= Cpu::RULES
+        && bytes::doubleword_at(b, k + Layout::HINT) <= hint::ROOM
 }
 
 /// The state in the 360 bytes from a place on; none where there are fewer bytes, or they are no state's.
+#[tactic(auto, using(crate::proofs::Laws::Layout::decoded_short, crate::proofs::Laws::Layout::decoded_valid, crate::proofs::Laws::Layout::decoded_none))]
 pub fn decode_at(bytes: &[u8], at: usize) -> Option<State>
     ensures { result ≡ decoded_at bytes.now at }
 {
@@ -188,6 +192,7 @@ pub fn decode_at(bytes: &[u8], at: usize) -> Option<State>
 }
 
 /// The state in 360 bytes; none where there are more or fewer, or they are no state's.
+#[tactic(auto, using(crate::proofs::Laws::Layout::decode_other, crate::proofs::Laws::Layout::decode_whole))]
 pub fn decode(bytes: &[u8]) -> Option<State>
     ensures { result ≡ decode_def bytes.now }
 {

@@ -4,16 +4,18 @@ ghost use Rattle.interpreter.specs.Calls.{bad_descriptor, mmap, reading, writing
 
 use crate::bits;
 
-/// Errors.
+/// Errors, by number. Constants of types, as in document 01, here and below.
 pub struct Errno;
 
 impl Errno {
+    /// No such descriptor.
     pub const EBADF: u64 = 9;
 
+    /// No such command.
     pub const EINVAL: u64 = 22;
 }
 
-/// Descriptors.
+/// Descriptors, by number.
 pub struct Fd;
 
 impl Fd {
@@ -50,31 +52,32 @@ impl Syscall {
 
     pub const EXIT_GROUP: u64 = 5205;
 
-    // What BRK answers.
+    /// What BRK answers.
     pub const BREAK: u64 = 0x4000_0000;
 
-    // The command of FCNTL that asks for a descriptor's mode.
+    /// The command of FCNTL that asks for a descriptor's mode.
     pub const GETFL: u64 = 3;
 
-    // Heap sizes are multiples of this.
+    /// Heap sizes are multiples of this.
     pub const PAGE: u64 = 4096;
 }
 
 /// Which call it is. What touches no memory is answered already.
 #[derive(Clone, Copy, Debug, PartialEq, Eq)]
 pub enum Call {
-    // The answer, and the error.
+    /// The answer, and the error.
     Answer(u64, u64),
-    // Answers the old heap, which becomes this.
+    /// Answers the old heap, which becomes this.
     Heap(u64),
+    /// With this code.
     Exit(u8),
-    // 5001 on 6.
+    /// 5001 on 6.
     Key,
-    // 5000 on 5.
+    /// 5000 on 5.
     Input,
-    // 5001 on 1 or 2.
+    /// 5001 on 1 or 2.
     Write(u64),
-    // 5001 on 4.
+    /// 5001 on 4.
     Hint,
 }
 
@@ -84,6 +87,7 @@ fn bad_descriptor() -> Call
     Call::Answer(u64::MAX, Errno::EBADF)
 }
 
+#[tactic(auto, using(crate::proofs::Laws::Calls::rounding), unfolding(crate::specs::Calls::mmap))]
 fn mmap(a0: u64, a1: u64, heap: u64) -> Call
     ensures { result ≡ mmap a0 a1 heap }
 {
@@ -94,6 +98,7 @@ fn mmap(a0: u64, a1: u64, heap: u64) -> Call
     Call::Answer(a0, 0)
 }
 
+#[tactic(auto, unfolding(crate::specs::Calls::reading))]
 fn read(fd: u64, a2: u64) -> Call
     ensures { result ≡ reading fd a2 }
 {
@@ -105,6 +110,7 @@ fn read(fd: u64, a2: u64) -> Call
     }
 }
 
+#[tactic(auto, unfolding(crate::specs::Calls::writing))]
 fn write(fd: u64) -> Call
     ensures { result ≡ writing fd }
 {
@@ -118,6 +124,7 @@ fn write(fd: u64) -> Call
 }
 
 // 0 for descriptors that are read, 1 for those that are written.
+#[tactic(auto, unfolding(crate::specs::Calls::mode_of))]
 fn mode_of(fd: u64) -> Call
     ensures { result ≡ mode_of fd }
 {
@@ -133,6 +140,7 @@ fn mode_of(fd: u64) -> Call
     }
 }
 
+#[tactic(auto, unfolding(crate::specs::Calls::control))]
 fn control(fd: u64, a1: u64) -> Call
     ensures { result ≡ control fd a1 }
 {
@@ -143,6 +151,7 @@ fn control(fd: u64, a1: u64) -> Call
 }
 
 /// The call with this number, descriptor, arguments and heap.
+#[tactic(auto, unfolding(crate::specs::Calls::call_of))]
 pub fn call_of(number: u64, fd: u64, a0: u64, a1: u64, a2: u64, heap: u64) -> Call
     ensures { result ≡ call_of number fd a0 a1 a2 heap }
 {

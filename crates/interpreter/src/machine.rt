@@ -3,7 +3,7 @@ ghost use Rattle.std.specs.Prelude.{◌≡◌, Some, ℕ, ◌%◌, ◌<◌};
 ghost use Rattle.pages.specs.Bytes.{big};
 ghost use Rattle.pages.specs.Pages.{byte_at};
 ghost use Rattle.pages.specs.Calls.{set_def};
-ghost use Rattle.interpreter.specs.Machine.{answering, set_reg};
+ghost use Rattle.interpreter.specs.Machine.{answering};
 ghost use Rattle.interpreter.specs.Plan.{eight_at};
 ghost use Rattle.interpreter.specs.Lent.{held, SameLoans, with_regs, kept, put_by};
 
@@ -32,32 +32,57 @@ pub(crate) struct Machine<'r, 'k, 'p, 'h, 'o, 'i> {
     pub input: Input<'i>,
 }
 
-impl Machine<'_, '_, '_, '_, '_, '_> {
-    // The word at an aligned pc.
-    pub(crate) fn fetch(&self) -> u64
-        requires { self.now.cpu.pc % 4 ≡ 0 }
-        ensures { result ≡ big 4 (byte_at self.now.pages.now self.now.used) self.now.cpu.pc }
+/// Page records and how many of them are used. Where more are said to be used than there are, every byte is zero.
+#[derive(Clone, Copy)]
+pub(crate) struct Memory<'a> {
+    pub pages: &'a [u8],
+    pub used: usize,
+}
+
+impl Memory<'_> {
+    // The word at an aligned address.
+    #[tactic(auto, using(crate::proofs::Laws::Paging::loaded))]
+    pub(crate) fn word(&self, address: u64) -> u64
+        requires { address % 4 ≡ 0 }
+        ensures { result ≡ big 4 (byte_at self.now.pages.now self.now.used) address }
     {
-        step::fetch(self.pages, self.used, self.cpu.pc)
+        memory::get_word(self.pages, self.used, address).unwrap_or(0)
     }
 
     // The doubleword at an aligned address.
+    #[tactic(auto, using(crate::proofs::Laws::Paging::loaded))]
     pub(crate) fn eight(&self, address: u64) -> u64
         requires { address % 8 ≡ 0 }
         ensures { result ≡ big 8 (byte_at self.now.pages.now self.now.used) address }
     {
-        step::eight(self.pages, self.used, address)
+        memory::get_doubleword(self.pages, self.used, address).unwrap_or(0)
     }
 
-    // The eight bytes that an instruction touches.
+    // The eight bytes that an instruction touches, and 0 where it touches none.
     pub(crate) fn touched(&self, t: Option<u64>) -> u64
         requires { (a : ℕ) → t ≡ Some a → a % 8 ≡ 0 }
         ensures { result ≡ eight_at (byte_at self.now.pages.now self.now.used) t }
     {
-        step::touched(self.pages, self.used, t)
+        match t {
+            None => 0,
+            Some(a) => self.eight(a),
+        }
+    }
+}
+
+impl Machine<'_, '_, '_, '_, '_, '_> {
+    // What a step reads of the page records.
+    pub(crate) fn memory(&self) -> Memory<'_>
+        ensures { (result.pages.now ≡ self.now.pages.now) × (result.used ≡ self.now.used) }
+    {
+        Memory {
+            pages: self.pages,
+            used: self.used,
+        }
     }
 
     // The doubleword stored at an aligned address. Nothing changes where no page record is left for it.
+    #[tactic(auto, using(crate::proofs::Laws::Lent::put_none))]
     pub(crate) fn store(&mut self, address: u64, value: u64) -> Result<(), Refusal>
         requires { address % 8 ≡ 0 }
         ensures lent { SameLoans self.old self.new }
@@ -70,17 +95,6 @@ impl Machine<'_, '_, '_, '_, '_, '_> {
                 Ok(())
             }
             Err(_) => Err(Refusal::MemoryFull),
-        }
-    }
-
-    #[tactic(auto, unfolding(crate::specs::Machine::set_reg))]
-    pub(crate) fn set_register(&mut self, i: u64, value: u64)
-        requires { i < 32 }
-        ensures lent { SameLoans self.old self.new }
-        ensures machine { held self.new ≡ with_regs (held self.old) (set_reg self.old.regs.now i value) }
-    {
-        if i != 0 {
-            self.regs[i as usize] = value;
         }
     }
 

@@ -11,6 +11,7 @@ ghost use Rattle.interpreter.specs.Parts.{seen_call, seen, recording_as};
 use crate::effect::Stop;
 use crate::layout::Layout;
 use crate::linux::Call;
+use crate::machine::Memory;
 use crate::state::{Cpu, State};
 use crate::step::Finished;
 use crate::{cpu, layout, step, syscall};
@@ -23,14 +24,18 @@ impl Record {
     /// How many spare bytes follow the instruction.
     pub const SPARES: usize = 4;
 
+    /// The state before the step.
     pub const OLD_STATE: usize = 0;
 
+    /// And after it.
     pub const NEW_STATE: usize = Layout::SIZE;
 
+    /// The instruction, in four bytes.
     pub const WORD: usize = Record::NEW_STATE + Layout::SIZE;
 
     pub const SPARE: usize = Record::WORD + 4;
 
+    /// The touched eight bytes' address. It and the eights are 0 where none are touched.
     pub const ADDRESS: usize = Record::SPARE + Record::SPARES;
 
     pub const OLD_EIGHT: usize = Record::ADDRESS + Layout::NUMBER;
@@ -44,6 +49,7 @@ impl Record {
     pub const TOUCH_SIZE: usize = Record::SIZE - Record::ADDRESS;
 }
 
+#[tactic(auto, using(crate::proofs::Laws::Records::put_touched))]
 fn put_eights(buf: &mut [u8], address: u64, old: u64, new: u64)
     requires { length buf.old ≡ 752 }
     ensures { buf.new ≡ sets buf.old 728 (touch_bytes (Some address) old new) }
@@ -53,6 +59,7 @@ fn put_eights(buf: &mut [u8], address: u64, old: u64, new: u64)
     bytes::put_doubleword(buf, Record::NEW_EIGHT, new);
 }
 
+#[tactic(auto, using(crate::proofs::Laws::Records::put_untouched))]
 fn put_touch(buf: &mut [u8], t: Option<u64>, old: u64, new: u64)
     requires { length buf.old ≡ 752 }
     ensures { buf.new ≡ sets buf.old 728 (touch_bytes t old new) }
@@ -64,6 +71,7 @@ fn put_touch(buf: &mut [u8], t: Option<u64>, old: u64, new: u64)
 }
 
 // Bytes 720 to 751: the instruction, and the eight bytes that it touched, as they were and as they are.
+#[tactic(auto, using(crate::proofs::Laws::Records::put_rest))]
 pub(crate) fn put_rest(buf: &mut [u8], word: u64, t: Option<u64>, old: u64, new: u64)
     requires { length buf.old ≡ 752 }
     ensures { buf.new ≡ sets buf.old 720 (rest_of word t old new) }
@@ -74,7 +82,7 @@ pub(crate) fn put_rest(buf: &mut [u8], word: u64, t: Option<u64>, old: u64, new:
 }
 
 // What is known of a step before it is made: it is wide, or these are the eight bytes that it touches.
-#[derive(Clone, Copy)]
+#[derive(Clone, Copy, Debug, PartialEq, Eq)]
 pub(crate) enum Seen {
     Wide,
     Narrow(Option<u64>),
@@ -97,6 +105,7 @@ fn see_call(c: Cpu, regs: &[u64; 32]) -> Seen
 }
 
 // The same of any instruction. Whether it is a call is the kernel's to say, whatever the eight bytes are.
+#[tactic(auto, using(crate::proofs::Laws::Recorder::look_call, crate::proofs::Laws::Recorder::look_refused, crate::proofs::Laws::Recorder::look_done))]
 fn look(c: Cpu, regs: &[u64; 32], word: u64) -> Seen
     requires { c.pc % 4 ≡ 0 }
     ensures { result ≡ seen c regs.now word }
@@ -126,6 +135,7 @@ fn fill(buf: &mut [u8], s: State, n: State, word: u64, t: Option<u64>, old: u64,
 }
 
 // A step that isn't wide, recorded where it counts.
+#[tactic(auto, using(crate::proofs::Laws::Recorder::seen_counts, crate::proofs::Laws::Recorder::seen_not), unfolding(crate::specs::Machine::cpu_of, crate::specs::Machine::state_of))]
 fn step_seen(
     s: State,
     pages: &mut [u8],
@@ -141,10 +151,14 @@ fn step_seen(
     requires { (length buf.old ≡ 752) × ((a : ℕ) → t ≡ Some a → a % 8 ≡ 0) }
     ensures { recorded (finished result pages.new hint.new output.new) buf.new ≡ recording_as (machine_of s used pages.old hint.old output.old) buf.old word t (step_def index.now «data».now (machine_of s used pages.old hint.old output.old)) }
 {
-    let old = step::touched(pages, used, t);
+    let old = Memory { pages, used }.touched(t);
     let r = step::step(s, pages, used, hint, output, index, data);
     if r.counts {
-        let new = step::touched(pages, r.used, t);
+        let memory = Memory {
+            pages,
+            used: r.used,
+        };
+        let new = memory.touched(t);
         fill(buf, s, r.state, word, t, old, new);
         return r;
     }
@@ -152,6 +166,7 @@ fn step_seen(
 }
 
 /// One step, by value, with its record: filled for every unrefused step from an unexited state that isn't wide.
+#[tactic(auto, using(crate::proofs::Laws::Recorder::touched_even, crate::proofs::Laws::Recorder::record_short, crate::proofs::Laws::Recorder::record_misaligned, crate::proofs::Laws::Recorder::record_wide, crate::proofs::Laws::Recorder::record_done))]
 pub fn step_recorded(
     s: State,
     pages: &mut [u8],
@@ -172,7 +187,7 @@ pub fn step_recorded(
         return step::step(s, pages, used, hint, output, index, data);
     }
     let regs = s.regs;
-    let word = step::fetch(pages, used, c.pc);
+    let word = Memory { pages, used }.word(c.pc);
     let seen = look(c, &regs, word);
     match seen {
         Seen::Wide => step::step(s, pages, used, hint, output, index, data),

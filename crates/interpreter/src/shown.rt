@@ -13,15 +13,16 @@ use crate::state::Cpu;
 use crate::{cpu, step, syscall};
 
 /// Such a step: the numbers that it leaves, what it touched, and the touched eight bytes afterwards, 0 where it touched none.
-#[derive(Clone, Copy)]
+#[derive(Clone, Copy, Debug, PartialEq, Eq)]
 pub struct Shown {
     pub cpu: Cpu,
+    /// The touched eight bytes' address.
     pub touch: Option<u64>,
     pub eight: u64,
 }
 
-/// Why there is none.
-#[derive(Clone, Copy)]
+/// Why there is no step that eight bytes show.
+#[derive(Clone, Copy, Debug, PartialEq, Eq)]
 pub enum Unshown {
     /// With 2 to 7.
     Refused(Refusal),
@@ -30,6 +31,7 @@ pub enum Unshown {
 }
 
 // The eight bytes that an instruction reads, where those shown are x.
+#[tactic(auto, using(crate::proofs::Laws::Shown::given_eight))]
 fn given(t: Option<u64>, x: u64) -> u64
     ensures { result ≡ eight_at (shown_at t x) t }
 {
@@ -40,6 +42,7 @@ fn given(t: Option<u64>, x: u64) -> u64
 }
 
 // And what they are afterwards.
+#[tactic(auto, using(crate::proofs::Laws::Shown::kept_eight))]
 fn kept(t: Option<u64>, x: u64, store: Option<u64>) -> u64
     ensures { result ≡ eight_at (remember (shown_at t x) (store_of t store)) t }
 {
@@ -61,6 +64,7 @@ fn untouching(cpu: Cpu) -> Shown
 }
 
 // A system call, once the step is counted: that of a machine with no bytes.
+#[tactic(auto, using(crate::proofs::Laws::Shown::shown_as, crate::proofs::Laws::Shown::reply_made, crate::proofs::Laws::Shown::heap_made, crate::proofs::Laws::Shown::exit_made, crate::proofs::Laws::Shown::key_made, crate::proofs::Laws::Shown::input_made, crate::proofs::Laws::Shown::write_made, crate::proofs::Laws::Shown::hint_made))]
 fn call(c: Cpu, regs: &mut [u64; 32], key: &mut [u8; 32], x: u64) -> Result<Shown, Unshown>
     ensures { shown result regs.new key.new ≡ call_shown c regs.old key.old x }
 {
@@ -107,6 +111,7 @@ fn call(c: Cpu, regs: &mut [u64; 32], key: &mut [u8; 32], x: u64) -> Result<Show
 }
 
 // An instruction that is no system call, once the kernel has said what it does.
+#[tactic(auto, using(crate::proofs::Laws::Shown::change_made))]
 fn complete(c: Cpu, regs: &mut [u64; 32], t: Option<u64>, x: u64, e: Change) -> Shown
     requires { e.dest < 32 }
     ensures { (k : List ℕ) → shown (Ok result) regs.new k ≡ change_shown c regs.old k t x e }
@@ -120,6 +125,7 @@ fn complete(c: Cpu, regs: &mut [u64; 32], t: Option<u64>, x: u64, e: Change) -> 
 }
 
 /// The step of this state by this instruction, where the touched eight bytes are x.
+#[tactic(auto, using(crate::proofs::Laws::Dests::kernel_dest, crate::proofs::Laws::Shown::shown_refused, crate::proofs::Laws::Shown::shown_call, crate::proofs::Laws::Shown::shown_done))]
 pub fn step_shown(
     c: Cpu,
     regs: &mut [u64; 32],

@@ -1,7 +1,5 @@
 // One step (cpu.rs).
 ghost use Rattle.std.specs.Prelude.{◌≡◌, ℕ, ◌*◌, ◌/◌, ◌%◌, ◌<◌, ◌≤◌, List, Some};
-ghost use Rattle.pages.specs.Bytes.{big};
-ghost use Rattle.pages.specs.Pages.{byte_at};
 ghost use Rattle.interpreter.specs.Machine.{reg, set_reg, room_of, machine, bad};
 ghost use Rattle.interpreter.specs.Plan.{does, changing, storing, eight_at, ins_of, touch_of, executing, plan};
 ghost use Rattle.interpreter.specs.Step.{values_of, left, refused, putting, working, advance, machine_of, finished, in_place, step_def};
@@ -13,30 +11,33 @@ use crate::isa::IType;
 use crate::machine::{Input, Machine};
 use crate::state::{Cpu, State};
 use crate::{cpu, hint};
-use pages::memory;
 use pages::page::Page;
 
-// What a step answers.
+/// What a step answers (document 01).
 #[derive(Clone, Copy, Debug, PartialEq, Eq)]
 pub enum Answer {
     Stepped,
-    // Stream and count.
+    /// Stream, 1 or 2, and how many bytes stand at the output's front.
     Wrote(u64, u64),
-    // The hint's bytes, without its length.
+    /// How many bytes the hint at the output's front has, without its length.
     Hint(u64),
+    /// The exit code.
     Exited(u8),
     Refused(Refusal),
 }
 
-// An answer in document 01's numbers: which one it is, counted from 0 in document 01's order, and its values.
-#[derive(Clone, Copy)]
+/// An answer in document 01's numbers: which one it is, counted from 0 in document 01's order, and its values.
+#[derive(Clone, Copy, Debug, PartialEq, Eq)]
 pub struct Values {
+    /// A number, since it is the result of the calls from C.
     pub kind: u8,
     pub first: u64,
     pub second: u64,
 }
 
 impl Answer {
+    /// The answer in numbers. A value that it does not have is 0.
+    #[tactic(auto, unfolding(crate::specs::Step::values_of))]
     pub fn values(self) -> Values
         ensures { result ≡ values_of self }
     {
@@ -61,24 +62,24 @@ fn said(kind: u8, first: u64, second: u64) -> Values
 }
 
 // What a step answers, and whether it was an unrefused step from an unexited state.
-#[derive(Clone, Copy)]
+#[derive(Clone, Copy, Debug, PartialEq, Eq)]
 pub(crate) struct Made {
     pub answer: Answer,
     pub counts: bool,
 }
 
-// What the step by value leaves beside the lent bytes.
-#[derive(Clone, Copy)]
+/// What the step by value leaves beside the lent bytes.
+#[derive(Clone, Copy, Debug, PartialEq, Eq)]
 pub struct Finished {
     pub answer: Answer,
     pub state: State,
     pub used: usize,
-    // Whether it was an unrefused step from an unexited state.
+    /// Whether it was an unrefused step from an unexited state.
     pub counts: bool,
 }
 
-// What the step in place leaves beside the lent machine: the same without the state.
-#[derive(Clone, Copy)]
+/// What the step in place leaves beside the lent machine: the same without the state.
+#[derive(Clone, Copy, Debug, PartialEq, Eq)]
 pub struct InPlace {
     pub answer: Answer,
     pub used: usize,
@@ -92,22 +93,6 @@ pub(crate) fn aligned(address: u64) -> u64
     address - address % 8
 }
 
-// The word at an aligned pc.
-pub(crate) fn fetch(pages: &[u8], used: usize, pc: u64) -> u64
-    requires { pc % 4 ≡ 0 }
-    ensures { result ≡ big 4 (byte_at pages.now used) pc }
-{
-    memory::get_word(pages, used, pc).unwrap_or(0)
-}
-
-// The doubleword at an aligned address.
-pub(crate) fn eight(pages: &[u8], used: usize, address: u64) -> u64
-    requires { address % 8 ≡ 0 }
-    ensures { result ≡ big 8 (byte_at pages.now used) address }
-{
-    memory::get_doubleword(pages, used, address).unwrap_or(0)
-}
-
 fn register(regs: &[u64; 32], i: u64) -> u64
     requires { i < 32 }
     ensures { result ≡ reg regs.now i }
@@ -115,6 +100,7 @@ fn register(regs: &[u64; 32], i: u64) -> u64
     regs[i as usize]
 }
 
+#[tactic(auto, unfolding(crate::specs::Machine::set_reg))]
 pub(crate) fn set_reg(regs: &mut [u64; 32], i: u64, v: u64)
     requires { i < 32 }
     ensures { regs.new ≡ set_reg regs.old i v }
@@ -124,18 +110,8 @@ pub(crate) fn set_reg(regs: &mut [u64; 32], i: u64, v: u64)
     }
 }
 
-// The eight bytes that an instruction touches.
-pub(crate) fn touched(pages: &[u8], used: usize, t: Option<u64>) -> u64
-    requires { (a : ℕ) → t ≡ Some a → a % 8 ≡ 0 }
-    ensures { result ≡ eight_at (byte_at pages.now used) t }
-{
-    match t {
-        None => 0,
-        Some(a) => eight(pages, used, a),
-    }
-}
-
 // What the instruction reads beside the eight bytes.
+#[tactic(auto, unfolding(crate::specs::Plan::ins_of))]
 pub(crate) fn ins_of(c: Cpu, regs: &[u64; 32], word: u64, mem: u64) -> Ins
     ensures { result ≡ ins_of c regs.now word mem }
 {
@@ -153,6 +129,7 @@ pub(crate) fn ins_of(c: Cpu, regs: &[u64; 32], word: u64, mem: u64) -> Ins
     }
 }
 
+#[tactic(auto, unfolding(crate::specs::Plan::touch_of))]
 pub(crate) fn touch_of(regs: &[u64; 32], word: u64) -> Option<u64>
     ensures { result ≡ touch_of regs.now word }
 {
@@ -185,11 +162,13 @@ impl Machine<'_, '_, '_, '_, '_, '_> {
         ensures machine { worked result (held self.new) ≡ working (index_in self.old) (data_in self.old) (held self.old) (λ v. does (changing v t e)) }
     {
         self.settle(t, e)?;
-        self.set_register(e.dest, e.value);
+        let regs = &mut *self.regs;
+        set_reg(regs, e.dest, e.value);
         self.cpu = self.cpu.changed(e);
         Ok(Answer::Stepped)
     }
 
+    #[tactic(auto, using(crate::proofs::Laws::Dests::kernel_dest, crate::proofs::Laws::Dests::touch_even, crate::proofs::Laws::Plans::exec_refused, crate::proofs::Laws::Plans::exec_call, crate::proofs::Laws::Plans::exec_done), unfolding(crate::specs::Plan::touch_of))]
     fn execute(&mut self, word: u64) -> Result<Answer, Refusal>
         requires { self.old.cpu.hint ≤ room_of self.old.hint.now }
         ensures lent { SameLoans self.old self.new }
@@ -197,7 +176,7 @@ impl Machine<'_, '_, '_, '_, '_, '_> {
     {
         let c = self.cpu;
         let t = touch_of(self.regs, word);
-        let mem = self.touched(t);
+        let mem = self.memory().touched(t);
         let effect = cpu::kernel(ins_of(c, self.regs, word, mem));
         match effect {
             Ok(e) => self.complete(t, e),
@@ -209,6 +188,7 @@ impl Machine<'_, '_, '_, '_, '_, '_> {
     }
 
     // The instruction at pc, once the step is counted.
+    #[tactic(auto, using(crate::proofs::Laws::Plans::step_misaligned, crate::proofs::Laws::Plans::step_planned))]
     fn proceed(&mut self) -> Result<Answer, Refusal>
         requires { self.old.cpu.hint ≤ room_of self.old.hint.now }
         ensures lent { SameLoans self.old self.new }
@@ -217,11 +197,13 @@ impl Machine<'_, '_, '_, '_, '_, '_> {
         if self.cpu.pc % 4 != 0 {
             return Err(Refusal::PcMisaligned);
         }
-        let word = self.fetch();
+        let pc = self.cpu.pc;
+        let word = self.memory().word(pc);
         self.execute(word)
     }
 
     // One step of a machine that is not refused with 1.
+    #[tactic(auto, using(crate::proofs::Laws::Lent::worked_as, crate::proofs::Laws::Plans::step_exited, crate::proofs::Laws::Plans::step_counted), unfolding(crate::specs::Machine::counted))]
     pub(crate) fn advance(&mut self) -> Made
         requires { self.old.cpu.hint ≤ room_of self.old.hint.now }
         ensures lent { SameLoans self.old self.new }
@@ -248,6 +230,7 @@ impl Machine<'_, '_, '_, '_, '_, '_> {
 }
 
 // Refusal 1, but for the recording buffer.
+#[tactic(auto, using(crate::proofs::Laws::Steps::bad_rules, crate::proofs::Laws::Steps::bad_hint, crate::proofs::Laws::Steps::bad_used))]
 pub(crate) fn bad(c: Cpu, pages: &[u8], used: usize, hint: &[u8]) -> bool
     ensures { (r k o : List ℕ) → result ≡ bad (machine c r k used pages.now hint.now o) }
 {
@@ -272,7 +255,8 @@ pub(crate) fn unstepped(s: State, used: usize) -> Finished
     }
 }
 
-// One step, by value.
+/// One step, by value. Refused with 1 where the rules number or the hint length is too large, or more page records are said to be
+/// used than the slice has. A refusal changes no lent byte.
 pub fn step(
     s: State,
     pages: &mut [u8],
@@ -311,7 +295,7 @@ pub fn step(
     }
 }
 
-// The same on a lent machine, stepped where it is.
+/// The same on a lent machine, stepped where it is.
 pub fn step_in_place(
     s: &mut State,
     pages: &mut [u8],

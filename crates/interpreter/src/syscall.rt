@@ -59,12 +59,13 @@ impl Machine<'_, '_, '_, '_, '_, '_> {
     }
 
     // 5001 on 6.
+    #[tactic(auto, using(crate::proofs::Laws::Plans::key_done))]
     fn keyed(&mut self)
         ensures lent { SameLoans self.old self.new }
         ensures machine { worked (Ok Stepped) (held self.new) ≡ working (index_in self.old) (data_in self.old) (held self.old) (λ s. calling s Key) }
     {
         let a1 = self.regs[5];
-        let x = self.eight(step::aligned(a1));
+        let x = self.memory().eight(step::aligned(a1));
         self.keyed_by(x);
     }
 
@@ -116,6 +117,7 @@ impl Machine<'_, '_, '_, '_, '_, '_> {
     }
 
     // 5000 on 5 once the preimage is found and the offset lies in it: some of its bytes go into one doubleword.
+    #[tactic(auto, using(crate::proofs::Laws::Lent::worked_as, crate::proofs::Laws::Inputs::moving_fits, crate::proofs::Laws::Plans::read_done, crate::proofs::Laws::Plans::read_full))]
     fn read_bytes(&mut self, part: &[u8]) -> Result<Answer, Refusal>
         requires { self.old.cpu.offset ≤ 8 + length part.now }
         ensures lent { SameLoans self.old self.new }
@@ -125,7 +127,7 @@ impl Machine<'_, '_, '_, '_, '_, '_> {
         let c = self.cpu;
         let n = input::moving(part.len() as u64, c.offset, a1, self.regs[6]);
         let at = step::aligned(a1);
-        let old = self.eight(at);
+        let old = self.memory().eight(at);
         let new = input::merge(old, a1 % 8, part, c.offset, n);
         self.store(at, new)?;
         self.reply(n, 0);
@@ -145,6 +147,7 @@ impl Machine<'_, '_, '_, '_, '_, '_> {
     }
 
     // 5000 on 5: the preimage with the key, of the input's index and data.
+    #[tactic(auto, using(crate::proofs::Laws::Plans::input_absent, crate::proofs::Laws::Plans::input_outside, crate::proofs::Laws::Plans::input_part))]
     fn read_input(&mut self) -> Result<Answer, Refusal>
         ensures lent { SameLoans self.old self.new }
         ensures machine { worked result (held self.new) ≡ working (index_in self.old) (data_in self.old) (held self.old) (λ s. calling s Input) }
@@ -160,6 +163,7 @@ impl Machine<'_, '_, '_, '_, '_, '_> {
         self.read_part(part)
     }
 
+    #[tactic(auto, using(crate::proofs::Laws::Plans::call_by))]
     pub(crate) fn call(&mut self) -> Result<Answer, Refusal>
         requires { self.old.cpu.hint ≤ room_of self.old.hint.now }
         ensures lent { SameLoans self.old self.new }
@@ -191,6 +195,7 @@ impl Machine<'_, '_, '_, '_, '_, '_> {
 }
 
 // Which system call it is: its number is the low word of register 2, its descriptor the low word of a0.
+#[tactic(auto, unfolding(crate::specs::Plan::call_in))]
 pub(crate) fn call_in(c: Cpu, regs: &[u64; 32]) -> Call
     ensures { result ≡ call_in c regs.now }
 {

@@ -42,6 +42,7 @@ pub(crate) fn used(answer: &[u64]) -> usize
 }
 
 // Writes the entries and gives the result.
+#[tactic(auto, using(crate::proofs::Laws::Ends::told_is))]
 fn tell(answer: &mut [u64], a: Answer, used: usize, count: u64) -> u64
     requires { 4 ≤ length answer.old }
     ensures { (result ≡ (values_of a).kind) × (answer.new ≡ told answer.old used (values_of a) count) }
@@ -70,22 +71,18 @@ pub(crate) fn refuse(answer: &mut [u64]) -> u64
     stand(answer, Answer::Refused(Refusal::BadMachine))
 }
 
+#[tactic(auto, using(crate::proofs::Laws::Ends::not_long, crate::proofs::Laws::Ends::not_exited, crate::proofs::Laws::Ends::not_spare, crate::proofs::Laws::Ends::spare_is))]
 fn well_formed(state: &[u8]) -> bool
     ensures { result ≡ well_formed state.now }
 {
-    if state.len() != Layout::SIZE {
-        return false;
-    }
-    if state[Layout::EXITED] > 1 {
-        return false;
-    }
-    if bytes::word_at(state, Layout::SPARE) != 0 {
-        return false;
-    }
-    state[Layout::LAST] == 0
+    state.len() == Layout::SIZE
+        && state[Layout::EXITED] <= 1
+        && bytes::word_at(state, Layout::SPARE) == 0
+        && state[Layout::LAST] == 0
 }
 
 // What a run answers where the bytes are not taken for a state: without a step to make, rules and hint length are not asked.
+#[tactic(auto, using(crate::proofs::Laws::Ends::idle_stepped, crate::proofs::Laws::Ends::idle_unformed, crate::proofs::Laws::Ends::idle_some))]
 pub(crate) fn idle(budget: u64, state: &[u8]) -> Answer
     ensures { result ≡ idle budget state.now }
 {

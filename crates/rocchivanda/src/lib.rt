@@ -12,6 +12,7 @@ use checker::check;
 use interpreter::{layout, record, run, step};
 
 // One step.
+#[tactic(auto, using(crate::proofs::Laws::Calls::decoded, crate::proofs::Laws::Calls::step_few, crate::proofs::Laws::Calls::step_none, crate::proofs::Laws::Calls::step_done))]
 pub fn rocchivanda_step(
     state: &mut [u8],
     pages: &mut [u8],
@@ -35,6 +36,7 @@ pub fn rocchivanda_step(
 }
 
 // One step, with its record.
+#[tactic(auto, using(crate::proofs::Laws::Calls::decoded, crate::proofs::Laws::Calls::record_few, crate::proofs::Laws::Calls::record_none, crate::proofs::Laws::Calls::record_done))]
 pub fn rocchivanda_step_recorded(
     state: &mut [u8],
     pages: &mut [u8],
@@ -59,6 +61,7 @@ pub fn rocchivanda_step_recorded(
 }
 
 // Steps until an answer other than Stepped comes, or as many as the budget are made.
+#[tactic(auto, using(crate::proofs::Laws::Calls::decoded, crate::proofs::Laws::Calls::run_few, crate::proofs::Laws::Calls::run_none, crate::proofs::Laws::Calls::run_done))]
 pub fn rocchivanda_run(
     state: &mut [u8],
     pages: &mut [u8],
@@ -84,6 +87,7 @@ pub fn rocchivanda_run(
 }
 
 // 0 for an accepted record, or the number of the refusal.
+#[tactic(auto, using(crate::proofs::Laws::Ends::check_is))]
 pub fn rocchivanda_check(record: &[u8]) -> u64
     ensures { result ≡ check_call «record».now }
 {

@@ -1,19 +1,9 @@
 use Rattle.std.proofs.Common.{arith}
-use Rattle.checker.proofs.Laws.Judged.{result_state, result_eight, result_same}
-use Rattle.checker.proofs.Laws.Same.{not_state, tested_same, tested_not}
+use Rattle.checker.proofs.Laws.Judged.{result_state}
+use Rattle.checker.proofs.Laws.Same.{not_state, tested_not}
 use Rattle.checker.proofs.check.judge_result.Goals as goal
 
 pub returns-then-ne : goal.returns-then-ne
 returns-then-ne c =
     let a = c.args in
     result_state _ c.requires _ _ _ (not_state _ _ (omega arith) (omega arith) (omega arith) (omega arith) (tested_not a.left a.new c.ne.ensures c.if-ne.true))
-
-pub returns-then-y-doubleword_at : goal.returns-then-y-doubleword_at
-returns-then-y-doubleword_at c =
-    let a = c.args in
-    result_eight _ c.requires _ _ _ (tested_same a.left a.new c.ne.ensures c.if-ne.false) c.doubleword_at.ensures c.if-y-doubleword_at.true
-
-pub returns : goal.returns
-returns c =
-    let a = c.args in
-    result_same _ c.requires _ _ _ (tested_same a.left a.new c.ne.ensures c.if-ne.false) c.doubleword_at.ensures c.if-y-doubleword_at.false

@@ -1,22 +1,7 @@
 use Rattle.std.proofs.Common.{le-leb}
 use borrow.Author.Tests.{lt-leb}
-use Rattle.interpreter.proofs.Laws.Hints.{word_announced, text_valid, heard_few, heard_short, heard_long, heard_text, heard_full, heard_out}
+use Rattle.interpreter.proofs.Laws.Hints.{word_announced, text_valid, heard_text, heard_full, heard_out}
 use Rattle.interpreter.proofs.hint.judge.Goals as goal
-
-pub returns-then-text-lt-LENGTH : goal.returns-then-text-lt-LENGTH
-returns-then-text-lt-LENGTH c = heard_few c.args.text.now _ c.if-text-lt-LENGTH.true
-
-pub returns-then-rest-n : goal.returns-then-rest-n
-returns-then-rest-n c =
-    let t = c.args.text.now in
-    let l = c.if-text-lt-LENGTH.false in
-    heard_short t _ _ (word_announced t l c.word_at-n.ensures) l c.if-rest-n.true
-
-pub returns-then-n-rest : goal.returns-then-n-rest
-returns-then-n-rest c =
-    let t = c.args.text.now in
-    let l = c.if-text-lt-LENGTH.false in
-    heard_long t _ _ (word_announced t l c.word_at-n.ensures) l c.if-n-rest.true
 
 pub returns-then-not-valid : goal.returns-then-not-valid
 returns-then-not-valid c =

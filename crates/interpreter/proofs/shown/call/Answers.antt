@@ -1,5 +1,5 @@
 use Rattle.std.proofs.Common.{rules, sym, ◌∙◌}
-use Rattle.interpreter.proofs.Laws.Shown.{shown_as, reply_made, heap_made, exit_made, key_made, input_made, write_made, hint_made}
+use Rattle.interpreter.proofs.Laws.Shown.{shown_as, reply_made, heap_made, exit_made, key_made}
 use Rattle.interpreter.proofs.shown.call.Goals as goal
 
 pub returns-in-Answer : goal.returns-in-Answer
@@ -13,12 +13,3 @@ returns-in-Exit c = let s = sym c.exited.ensures.lent.regs in let t = sym c.exit
 
 pub returns-in-Key : goal.returns-in-Key
 returns-in-Key c = let s = sym c.keyed_by.ensures.lent.regs in let t = sym c.keyed_by.ensures.lent.key in key_made _ _ _ _ c.call_in-called.ensures c.in-Key.is c.aligned-a.ensures.0 c.ranges.x.fits c.keyed_by.ensures.machine (search rules) (search rules)
-
-pub returns-in-Input : goal.returns-in-Input
-returns-in-Input c = input_made _ _ _ _ c.call_in-called.ensures c.in-Input.is
-
-pub returns-in-Write : goal.returns-in-Write
-returns-in-Write c = write_made _ _ _ _ _ c.call_in-called.ensures c.in-Write.is
-
-pub returns-in-Hint : goal.returns-in-Hint
-returns-in-Hint c = hint_made _ _ _ _ c.call_in-called.ensures c.in-Hint.is

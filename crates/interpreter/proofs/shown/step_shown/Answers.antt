@@ -1,16 +1,5 @@
-use Rattle.std.proofs.Common.{Err, ap, ◌∙◌}
-use Rattle.interpreter.proofs.Laws.Dests.{kernel_dest}
-use Rattle.interpreter.proofs.Laws.Shown.{shown_refused, shown_call, shown_done}
+use Rattle.interpreter.proofs.Laws.Shown.{shown_done}
 use Rattle.interpreter.proofs.shown.step_shown.Goals as goal
-
-pub complete-requires : goal.complete-requires
-complete-requires c = kernel_dest _ _ c.kernel-effect.ensures c.in-Ok.is
-
-pub returns-in-Refused : goal.returns-in-Refused
-returns-in-Refused c = shown_refused _ _ _ _ _ c.counted-n.ensures c.touch_of-t.ensures c.given.ensures c.ins_of.ensures c.kernel-effect.ensures (c.in-Err.is ∙ ap Err c.in-Refused.is)
-
-pub returns-in-Call : goal.returns-in-Call
-returns-in-Call c = shown_call _ _ _ _ _ c.counted-n.ensures c.touch_of-t.ensures c.given.ensures c.ins_of.ensures c.kernel-effect.ensures (c.in-Err.is ∙ ap Err c.in-Call.is) c.call.ensures
 
 pub returns-in-Ok : goal.returns-in-Ok
 returns-in-Ok c = shown_done _ _ _ _ _ c.counted-n.ensures c.touch_of-t.ensures c.given.ensures c.ins_of.ensures c.kernel-effect.ensures c.in-Ok.is (c.complete.ensures _)

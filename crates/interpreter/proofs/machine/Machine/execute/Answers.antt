@@ -1,22 +1,12 @@
-use Rattle.std.proofs.Common.{sym, ap, Err, ◌∙◌}
-use Rattle.interpreter.specs.Plan.{touch_of}
-use Rattle.interpreter.proofs.Laws.Dests.{kernel_dest, touch_even}
+use Rattle.std.proofs.Common.{ap, Err, ◌∙◌}
 use Rattle.interpreter.proofs.Laws.Plans.{exec_refused, exec_call, exec_done}
 use Rattle.interpreter.proofs.machine.Machine.execute.Goals as goal
 
-pub touched-mem-requires : goal.touched-mem-requires
-unfolding touch_of
-touched-mem-requires c = λ a e. touch_even _ _ a (sym c.touch_of-t.ensures ∙ e)
-
-pub complete-requires : goal.complete-requires
-unfolding touch_of
-complete-requires c = record { dest = kernel_dest _ _ c.kernel-effect.ensures c.in-Ok.is; touch = λ a e. touch_even _ _ a (sym c.touch_of-t.ensures ∙ e) }
-
 pub returns-in-Refused-clause-machine : goal.returns-in-Refused-clause-machine
-returns-in-Refused-clause-machine c = exec_refused _ _ _ _ _ _ _ _ _ _ c.touch_of-t.ensures c.touched-mem.ensures c.ins_of.ensures c.kernel-effect.ensures (c.in-Err.is ∙ ap Err c.in-Refused.is)
+returns-in-Refused-clause-machine c = exec_refused _ _ _ _ _ _ _ _ _ _ c.touch_of-t.ensures (rw (c.memory.ensures.0, c.memory.ensures.1) at c.touched-mem.ensures) c.ins_of.ensures c.kernel-effect.ensures (c.in-Err.is ∙ ap Err c.in-Refused.is)
 
 pub returns-in-Call-clause-machine : goal.returns-in-Call-clause-machine
-returns-in-Call-clause-machine c = exec_call _ _ _ _ _ _ _ _ _ _ c.touch_of-t.ensures c.touched-mem.ensures c.ins_of.ensures c.kernel-effect.ensures (c.in-Err.is ∙ ap Err c.in-Call.is) c.call.ensures.machine
+returns-in-Call-clause-machine c = exec_call _ _ _ _ _ _ _ _ _ _ c.touch_of-t.ensures (rw (c.memory.ensures.0, c.memory.ensures.1) at c.touched-mem.ensures) c.ins_of.ensures c.kernel-effect.ensures (c.in-Err.is ∙ ap Err c.in-Call.is) c.call.ensures.machine
 
 pub returns-in-Ok-clause-machine : goal.returns-in-Ok-clause-machine
-returns-in-Ok-clause-machine c = exec_done _ _ _ _ _ _ _ _ _ _ c.touch_of-t.ensures c.touched-mem.ensures c.ins_of.ensures c.kernel-effect.ensures c.in-Ok.is c.complete.ensures.machine
+returns-in-Ok-clause-machine c = exec_done _ _ _ _ _ _ _ _ _ _ c.touch_of-t.ensures (rw (c.memory.ensures.0, c.memory.ensures.1) at c.touched-mem.ensures) c.ins_of.ensures c.kernel-effect.ensures c.in-Ok.is c.complete.ensures.machine

@@ -1,11 +1,5 @@
-use Rattle.interpreter.proofs.Laws.Plans.{input_absent, input_outside, input_part}
+use Rattle.interpreter.proofs.Laws.Plans.{input_part}
 use Rattle.interpreter.proofs.machine.Machine.read_input.Goals as goal
 
 pub returns-clause-machine : goal.returns-clause-machine
 returns-clause-machine c = input_part _ _ _ _ _ _ _ _ _ c.entry_of.ensures c.in-Some.is c.inside.ensures c.if-not-inside.false c.part_of-part.ensures c.read_part.ensures.machine
-
-pub returns-in_default-clause-machine : goal.returns-in_default-clause-machine
-returns-in_default-clause-machine c = input_absent _ _ _ _ _ _ _ _ _ c.entry_of.ensures c.in_default.is
-
-pub returns-then-not-inside-clause-machine : goal.returns-then-not-inside-clause-machine
-returns-then-not-inside-clause-machine c = input_outside _ _ _ _ _ _ _ _ _ c.entry_of.ensures c.in-Some.is c.inside.ensures c.if-not-inside.true
