@@ -1,203 +1,233 @@
-//! A machine with all that is lent to it, and the answer to its last step.
-use interpreter::layout::Layout;
+//! A whole machine in one buffer of bytes, so that one comparison sees every byte of it: the state's 360 bytes, the
+//! numbers beside it, the last answer, and the lent buffers.
+ghost use Rattle.std.specs.Prelude.{◌≤◌};
+
+use crate::bytes;
 use interpreter::state::State;
-use interpreter::step;
-use interpreter::step::{Answer, Values};
-use pages::page::Page;
-use std::array;
+use interpreter::step::{Answer, Finished};
+use interpreter::{layout, step};
+
+/// Where things stand.
+#[derive(Clone, Copy)]
+pub struct Place {
+    pub at: usize,
+}
+
+impl Place {
+    pub const PC: usize = 256;
+
+    pub const NEXT: usize = 264;
+
+    pub const HI: usize = 272;
+
+    pub const LO: usize = 280;
+
+    pub const HEAP: usize = 288;
+
+    pub const STEP: usize = 296;
+
+    pub const OFFSET: usize = 304;
+
+    /// The hint length.
+    pub const HELD: usize = 312;
+
+    pub const KEY: usize = 320;
+
+    pub const EXITED: usize = 352;
+
+    pub const CODE: usize = 353;
+
+    pub const RULES: usize = 354;
+
+    pub const SPARE: usize = 355;
+
+    // The used records, and the lengths of what is lent.
+    pub const USED: usize = 360;
+
+    pub const PAGES_SIZE: usize = 368;
+
+    pub const HINT_SIZE: usize = 376;
+
+    pub const OUTPUT_SIZE: usize = 384;
+
+    pub const INDEX_SIZE: usize = 392;
+
+    pub const DATA_SIZE: usize = 400;
+
+    // The answer's kind and values.
+    pub const KIND: usize = 408;
+
+    pub const FIRST: usize = 416;
+
+    pub const SECOND: usize = 424;
+
+    pub const HINT: usize = 432;
+
+    pub const OUTPUT: usize = 560;
+
+    pub const INDEX: usize = 688;
+
+    pub const DATA: usize = 944;
+
+    pub const PAGES: usize = 1200;
+
+    pub const RECORD: usize = 4104;
+
+    pub const END: usize = 13517;
+}
 
 /// Every byte of what is lent, but for page numbers and instruction.
 const FILL: u8 = 0xee;
 
-/// How many bytes stand before those of the lent buffers: the state's, and nine numbers.
-const FRONT: usize = Layout::SIZE + 9 * Layout::NUMBER;
-
-/// Three whole records and five bytes more.
-const PAGES: usize = 3 * Page::RECORD_SIZE + 5;
-
-/// A buffer of which so many bytes are lent. The rest is compared too.
+/// Kinds of answers.
 #[derive(Clone, Copy)]
-pub struct Buffer<const N: usize> {
-    pub bytes: [u8; N],
-    pub lent: usize,
+pub struct Kind {
+    pub number: u64,
 }
 
-impl<const N: usize> Buffer<N> {
-    fn filled(lent: usize) -> Buffer<N> {
-        Buffer {
-            bytes: [FILL; N],
-            lent,
-        }
-    }
+impl Kind {
+    pub const STEPPED: u64 = 0;
 
-    /// The part that is lent.
-    fn lend(&mut self) -> &mut [u8] {
-        let count = self.lent.min(N);
-        &mut self.bytes[..count]
-    }
-}
+    pub const WROTE: u64 = 1;
 
-#[derive(Clone, Copy)]
-pub struct Machine {
-    pub state: State,
-    pub used: usize,
-    pub pages: Buffer<PAGES>,
-    pub hint: Buffer<128>,
-    pub output: Buffer<128>,
-    pub index: Buffer<256>,
-    pub data: Buffer<256>,
-    pub answer: Answer,
-}
+    pub const HINT: u64 = 2;
 
-/// Registers, hi, lo and key all hold different bytes: those that stand at places 0 to 351 of the state's layout count up from
-/// 1 to 251, and again.
-fn byte_of_place(place: usize) -> u8 {
-    (place % 251 + 1) as u8
-}
+    pub const EXITED: u64 = 3;
 
-/// The big-endian number that stands at such a place.
-fn number_of_place(place: usize) -> u64 {
-    u64::from_be_bytes(array::from_fn(|k| byte_of_place(place.wrapping_add(k))))
-}
-
-impl Machine {
-    /// The machine that each case starts from: three whole records and five bytes more, of which page 1, with a SYSCALL at pc,
-    /// and page 5 are used; 24 bytes of hint buffer, 16 of output, no input.
-    pub fn plain() -> Machine {
-        let state = State {
-            regs: array::from_fn(|r| number_of_place(r.wrapping_mul(Layout::NUMBER))),
-            pc: 0x1000,
-            next: 0x1004,
-            hi: number_of_place(Layout::HI),
-            lo: number_of_place(Layout::LO),
-            heap: 0x2000_0000,
-            step: 41,
-            offset: 0,
-            hint: 0,
-            key: array::from_fn(|k| byte_of_place(k.wrapping_add(Layout::KEY))),
-            exited: false,
-            code: 0x77,
-            rules: 0,
-        };
-        let mut pages = Buffer::filled(PAGES);
-        pages.bytes[..8].copy_from_slice(&1u64.to_be_bytes());
-        pages.bytes[8..12].copy_from_slice(b"\x00\x00\x00\x0c");
-        pages.bytes[Page::RECORD_SIZE..Page::RECORD_SIZE + Page::NUMBER_SIZE].copy_from_slice(
-            &5u64.to_be_bytes(),
-        );
-        Machine {
-            state,
-            used: 2,
-            pages,
-            hint: Buffer::filled(24),
-            output: Buffer::filled(16),
-            index: Buffer::filled(0),
-            data: Buffer::filled(0),
-            answer: Answer::Stepped,
-        }
-    }
-
-    /// Makes a step on what is lent.
-    pub fn step(&mut self) {
-        let finished = step::step(
-            self.state,
-            self.pages.lend(),
-            self.used,
-            self.hint.lend(),
-            self.output.lend(),
-            self.index.lend(),
-            self.data.lend(),
-        );
-        self.state = finished.state;
-        self.used = finished.used;
-        self.answer = finished.answer;
-    }
-
-    /// The state's bytes, and then the numbers beside it, of eight bytes each.
-    fn front(&self) -> [u8; FRONT] {
-        let Values {
-            kind,
-            first,
-            second,
-        } = self.answer.values();
-        let numbers = [
-            self.used as u64,
-            self.pages.lent as u64,
-            self.hint.lent as u64,
-            self.output.lent as u64,
-            self.index.lent as u64,
-            self.data.lent as u64,
-            u64::from(kind),
-            first,
-            second,
-        ];
-        let mut front = [0; FRONT];
-        let (state, rest) = front.split_at_mut(Layout::SIZE);
-        state.copy_from_slice(&self.state.encode());
-        for (place, number) in rest.chunks_exact_mut(Layout::NUMBER).zip(numbers) {
-            place.copy_from_slice(&number.to_be_bytes());
-        }
-        front
-    }
-
-    /// The first place in which another machine differs, of every byte of the two: 0 to 359 are the state's, from 360 on stand
-    /// the used count, what is lent of pages, hint buffer, output, index and data, and the answer's kind and two values, from 432
-    /// on the hint buffer, from 560 on the output, from 688 on the index, from 944 on the data, and from 1200 on the pages.
-    pub fn difference(&self, other: &Machine) -> Option<usize> {
-        let bytes = |machine: &Machine| {
-            machine
-                .front()
-                .into_iter()
-                .chain(machine.hint.bytes)
-                .chain(machine.output.bytes)
-                .chain(machine.index.bytes)
-                .chain(machine.data.bytes)
-                .chain(machine.pages.bytes)
-        };
-        bytes(self)
-            .zip(bytes(other))
-            .position(|(here, there)| here != there)
-    }
-
-    /// Goes on as a call does that is counted.
-    pub fn count(&mut self) {
-        self.state.step = self.state.step.wrapping_add(1);
-    }
-
-    /// Goes on to the next instruction.
-    pub fn go(&mut self) {
-        self.count();
-        self.state.pc = self.state.next;
-        self.state.next = self.state.next.wrapping_add(4);
-    }
-
-    /// Takes the third record for a page, all zero.
-    pub fn open(&mut self, page: u64) {
-        let record = &mut self.pages.bytes[2 * Page::RECORD_SIZE..3 * Page::RECORD_SIZE];
-        record.fill(0);
-        record[..Page::NUMBER_SIZE].copy_from_slice(&page.to_be_bytes());
-        self.used = 3;
-    }
-
-    /// Puts an input with the machine's key into the index, at one of the five places that it has room for.
-    pub fn enter(&mut self, place: u64, start: u64, size: u64) -> Option<()> {
-        if place > 4 {
-            return None;
-        }
-        let from = place as usize * 48;
-        self.index.bytes[from..from + 32].copy_from_slice(&self.state.key);
-        self.index.bytes[from + 32..from + 40].copy_from_slice(&start.to_be_bytes());
-        self.index.bytes[from + 40..from + 48].copy_from_slice(&size.to_be_bytes());
-        Some(())
-    }
+    pub const REFUSED: u64 = 4;
 }
 
 /// Where the bytes at an address stand: page 1 is record 0, page 5 is record 1, and any other is record 2.
-pub fn place_of(address: u64) -> usize {
-    let record = match address / Page::ADDRESSES {
-        1 => 0,
-        5 => 1,
-        _ => 2,
-    };
-    record * Page::RECORD_SIZE + Page::NUMBER_SIZE + (address % Page::ADDRESSES) as usize
+pub fn memory(address: u64) -> usize {
+    let inside = (address % 4096) as usize;
+    match address / 4096 {
+        1 => 1208 + inside,
+        5 => 5312 + inside,
+        _ => 9416 + inside,
+    }
+}
+
+/// Registers, hi, lo and key all hold different bytes.
+fn plain_state(m: &mut [u8]) {
+    for k in 0..Place::EXITED {
+        bytes::set(m, k, (k % 251 + 1) as u8);
+    }
+    bytes::fill(m, Place::OFFSET, Place::KEY, 0);
+    bytes::fill(m, Place::EXITED, Place::HINT, 0);
+    bytes::put_number(m, Place::PC, 0x1000);
+    bytes::put_number(m, Place::NEXT, 0x1004);
+    bytes::put_number(m, Place::HEAP, 0x2000_0000);
+    bytes::put_number(m, Place::STEP, 41);
+    bytes::set(m, Place::CODE, 0x77);
+}
+
+/// The machine that each case starts from: three whole records and five bytes more, of which page 1, with a SYSCALL at
+/// pc, and page 5 are used; 24 bytes of hint buffer, 16 of output, no input.
+pub fn plain(m: &mut [u8]) {
+    bytes::fill(m, 0, Place::END, FILL);
+    plain_state(m);
+    bytes::put_number(m, Place::USED, 2);
+    bytes::put_number(m, Place::PAGES_SIZE, 12317);
+    bytes::put_number(m, Place::HINT_SIZE, 24);
+    bytes::put_number(m, Place::OUTPUT_SIZE, 16);
+    bytes::put_number(m, Place::PAGES, 1);
+    bytes::put_number(m, 5304, 5);
+    bytes::lay(b"\x00\x00\x00\x0c", m, 1208);
+}
+
+/// The state, or zeros where the bytes are no state's. Its rules number may be one that no state has.
+fn state_of(m: &[u8]) -> State {
+    let mut b = [0u8; 360];
+    bytes::copy(m, 0, &mut b);
+    bytes::set(&mut b, Place::RULES, 0);
+    let mut s = layout::decode(&b).unwrap_or_default();
+    s.rules = bytes::byte(m, Place::RULES);
+    s
+}
+
+fn count_at(m: &[u8], at: usize) -> usize {
+    (bytes::number(m, at, 8) % 0x1_0000_0000) as usize
+}
+
+/// A length that lies in a buffer.
+fn size(m: &[u8], at: usize, longest: usize) -> usize
+    ensures { result ≤ longest }
+{
+    let n = count_at(m, at);
+    if longest < n {
+        return longest;
+    }
+    n
+}
+
+/// The step on as many bytes of each buffer as are lent.
+fn finish(
+    m: &[u8],
+    pages: &mut [u8],
+    hint: &mut [u8],
+    output: &mut [u8],
+    index: &[u8],
+    data: &[u8],
+) -> Finished {
+    let p = size(m, Place::PAGES_SIZE, pages.len());
+    let h = size(m, Place::HINT_SIZE, hint.len());
+    let o = size(m, Place::OUTPUT_SIZE, output.len());
+    let i = size(m, Place::INDEX_SIZE, index.len());
+    let d = size(m, Place::DATA_SIZE, data.len());
+    let used = count_at(m, Place::USED);
+    let s = state_of(m);
+    step::step(
+        s,
+        &mut pages[..p],
+        used,
+        &mut hint[..h],
+        &mut output[..o],
+        &index[..i],
+        &data[..d],
+    )
+}
+
+pub fn answer(m: &mut [u8], kind: u64, first: u64, second: u64) {
+    bytes::put_number(m, Place::KIND, kind);
+    bytes::put_number(m, Place::FIRST, first);
+    bytes::put_number(m, Place::SECOND, second);
+}
+
+fn put_answer(m: &mut [u8], a: Answer) {
+    match a {
+        Answer::Stepped => answer(m, Kind::STEPPED, 0, 0),
+        Answer::Wrote(stream, count) => answer(m, Kind::WROTE, stream, count),
+        Answer::Hint(count) => answer(m, Kind::HINT, count, 0),
+        Answer::Exited(code) => answer(m, Kind::EXITED, code as u64, 0),
+        Answer::Refused(r) => answer(m, Kind::REFUSED, u8::from(r) as u64, 0),
+    }
+}
+
+fn put_finish(m: &mut [u8], f: Finished) {
+    let s = f.state;
+    let b = s.encode();
+    bytes::lay(&b, m, 0);
+    bytes::put_number(m, Place::USED, f.used as u64);
+    let a = f.answer;
+    put_answer(m, a);
+}
+
+/// One step of the machine m; g becomes the machine after it.
+pub fn step(m: &[u8], g: &mut [u8]) {
+    let mut pages = [0u8; 12317];
+    let mut hint = [0u8; 128];
+    let mut output = [0u8; 128];
+    let mut index = [0u8; 256];
+    let mut data = [0u8; 256];
+    bytes::copy(m, Place::PAGES, &mut pages);
+    bytes::copy(m, Place::HINT, &mut hint);
+    bytes::copy(m, Place::OUTPUT, &mut output);
+    bytes::copy(m, Place::INDEX, &mut index);
+    bytes::copy(m, Place::DATA, &mut data);
+    let f = finish(m, &mut pages, &mut hint, &mut output, &index, &data);
+    bytes::copy(m, 0, g);
+    bytes::lay(&pages, g, Place::PAGES);
+    bytes::lay(&hint, g, Place::HINT);
+    bytes::lay(&output, g, Place::OUTPUT);
+    put_finish(g, f);
 }

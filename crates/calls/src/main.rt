@@ -3,43 +3,21 @@
 //! document 01.
 #![tactic(auto)]
 
-mod case;
-mod hex;
+mod bytes;
 mod machine;
+mod run;
+mod script;
+mod sets;
+mod text;
 mod words;
 
+use crate::run::Run;
 use std::io::Read;
 use std::rt::Files;
 use std::{fs, io};
 
-/// How the cases went.
-#[derive(Clone, Copy, Default)]
-struct Tally {
-    cases: u64,
-    wrong: u64,
-}
-
-impl Tally {
-    /// Carries a case out: its name up to the end of the line, and then its words.
-    fn add(&mut self, rt: &(impl Print + AllocGlobal), text: &str) -> io::Result<()> {
-        let (name, words) = text.split_once('\n').unwrap_or((text, ""));
-        self.cases = self.cases.wrapping_add(1);
-        match case::carry(rt.alloc(), words)? {
-            None => println!(rt; "{name}: ok"),
-            Some(wrong) => {
-                self.wrong = self.wrong.wrapping_add(1);
-                println!(rt; "{name}: wrong at {wrong}")
-            }
-        }
-    }
-}
-
-/// Carries the cases of a list out.
-fn list<R: Files + Print + Eprint + AllocGlobal>(
-    rt: &R,
-    path: &str,
-    tally: &mut Tally,
-) -> io::Result<()> {
+/// Fills buf from its front with a file, as far as both go.
+fn read(rt: &(impl Files + Eprint), path: &str, buf: &mut [u8]) -> io::Result<()> {
     let mut file = match fs::open(rt, path) {
         Ok(file) => file,
         Err(error) => {
@@ -47,26 +25,46 @@ fn list<R: Files + Print + Eprint + AllocGlobal>(
             return Ok(());
         }
     };
-    let mut text = String::new(rt.alloc());
-    file.read_to_string(&mut text)?;
-    for case in text.split("\ncase ").skip(1) {
-        tally.add(rt, case)?;
+    let mut done = 0;
+    while done < buf.len() {
+        let count = file.read(&mut buf[done..])?;
+        if count == 0 {
+            return Ok(());
+        }
+        done += count;
     }
     Ok(())
 }
 
-fn main(rt: HostRuntime) -> io::Result<()> {
-    let mut tally = Tally::default();
-    for path in [
-        "calls.txt",
-        "input.txt",
-        "output.txt",
-        "hints.txt",
-        "utf8.txt",
-        "refusals.txt",
-    ] {
-        list(&rt, path, &mut tally)?;
+/// Carries the cases of a list out, whose bytes behind the end are blanks.
+fn carry(rt: &impl Print, s: &[u8], m: &mut [u8], g: &mut [u8], r: Run) -> io::Result<Run> {
+    let mut n = r.moved(text::start(s, 0));
+    for _ in 0..s.len() {
+        if s.len() <= n.at {
+            return run::ended(rt, s, m, g, n);
+        }
+        n = script::turn(rt, s, m, g, n)?;
     }
-    let Tally { cases, wrong } = tally;
+    run::ended(rt, s, m, g, n)
+}
+
+fn list(rt: &(impl Files + Print + Eprint), path: &str, r: Run) -> io::Result<Run> {
+    let mut s = [b' '; 32768];
+    let mut m = [0u8; 13517];
+    let mut g = [0u8; 13517];
+    read(rt, path, &mut s)?;
+    carry(rt, &s, &mut m, &mut g, r)
+}
+
+fn main(rt: HostRuntime) -> io::Result<()> {
+    let r = Run::new(0, 0);
+    let r = list(&rt, "calls.txt", r)?;
+    let r = list(&rt, "input.txt", r)?;
+    let r = list(&rt, "output.txt", r)?;
+    let r = list(&rt, "hints.txt", r)?;
+    let r = list(&rt, "utf8.txt", r)?;
+    let r = list(&rt, "refusals.txt", r)?;
+    let cases = r.cases;
+    let wrong = r.wrong;
     println!(rt; "{cases} cases, {wrong} wrong")
 }

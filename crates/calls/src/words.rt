@@ -1,149 +1,93 @@
-//! The words that set parts of a machine, with their values.
-use crate::machine::Machine;
-use crate::{hex, machine};
-use interpreter::effect::Refusal;
-use interpreter::step::Answer;
+//! The words of a list of cases. A word's number is that of its letters, as text::word reads it.
 
-/// A number: decimal, or hexadecimal behind 0x.
-fn number(word: &str) -> Option<u64> {
-    match word.strip_prefix("0x") {
-        Some(digits) => u64::from_str_radix(digits, 16).ok(),
-        None => word.parse().ok(),
-    }
+#[derive(Clone, Copy)]
+pub struct Word {
+    pub number: u64,
 }
 
-fn value(values: &[&str], k: usize) -> Option<u64> {
-    number(values.get(k)?)
-}
+impl Word {
+    // Cases and steps.
+    pub const CASE: u64 = 0x6361_7365;
 
-fn size(values: &[&str], k: usize) -> Option<usize> {
-    usize::try_from(value(values, k)?).ok()
-}
+    pub const STEP: u64 = 0x7374_6570;
 
-fn refusal(number: u64) -> Option<Refusal> {
-    Refusal::try_from(u8::try_from(number).ok()?).ok()
-}
+    pub const THEN: u64 = 0x7468_656e;
 
-/// Puts the bytes of the second value at the place of the first.
-fn set_at(values: &[&str], buf: &mut [u8]) -> Option<usize> {
-    hex::put(values.get(1)?, buf, size(values, 0)?)?;
-    Some(2)
-}
+    pub const VALID: u64 = 0x76_616c_6964;
 
-impl Machine {
-    /// Sets what a word names, and answers how many of the values behind it belong to it. `None` where there is no such word,
-    /// or a value is missing or cannot be read.
-    pub fn set(&mut self, word: &str, values: &[&str]) -> Option<usize> {
-        match word {
-            "pc" => self.state.pc = value(values, 0)?,
-            "next" => self.state.next = value(values, 0)?,
-            "hi" => self.state.hi = value(values, 0)?,
-            "lo" => self.state.lo = value(values, 0)?,
-            "heap" => self.state.heap = value(values, 0)?,
-            "steps" => self.state.step = value(values, 0)?,
-            "offset" => self.state.offset = value(values, 0)?,
-            "held" => self.state.hint = value(values, 0)?,
-            "exited" => self.state.exited = value(values, 0)? != 0,
-            "code" => self.state.code = u8::try_from(value(values, 0)?).ok()?,
-            "rules" => self.state.rules = u8::try_from(value(values, 0)?).ok()?,
-            _ => return self.set_size(word, values),
-        }
-        Some(1)
-    }
+    pub const INVALID: u64 = 0x69_6e76_616c_6964;
 
-    /// The used records, and how much is lent.
-    fn set_size(&mut self, word: &str, values: &[&str]) -> Option<usize> {
-        match word {
-            "used" => self.used = size(values, 0)?,
-            "pagesize" => self.pages.lent = size(values, 0)?,
-            "hintsize" => self.hint.lent = size(values, 0)?,
-            "outsize" => self.output.lent = size(values, 0)?,
-            "idxsize" => self.index.lent = size(values, 0)?,
-            "datasize" => self.data.lent = size(values, 0)?,
-            _ => return self.set_bytes(word, values),
-        }
-        Some(1)
-    }
+    // Numbers of the machine.
+    pub const PC: u64 = 0x7063;
 
-    /// Bytes at a place of a buffer.
-    fn set_bytes(&mut self, word: &str, values: &[&str]) -> Option<usize> {
-        match word {
-            "key" => set_at(values, &mut self.state.key),
-            "hint" => set_at(values, &mut self.hint.bytes),
-            "output" => set_at(values, &mut self.output.bytes),
-            "index" => set_at(values, &mut self.index.bytes),
-            "data" => set_at(values, &mut self.data.bytes),
-            "pages" => set_at(values, &mut self.pages.bytes),
-            _ => self.set_memory(word, values),
-        }
-    }
+    pub const NEXT: u64 = 0x6e65_7874;
 
-    /// Memory, by address or by page, and the index.
-    fn set_memory(&mut self, word: &str, values: &[&str]) -> Option<usize> {
-        match word {
-            "mem" => {
-                let place = machine::place_of(value(values, 0)?);
-                hex::put(values.get(1)?, &mut self.pages.bytes, place)?;
-                Some(2)
-            }
-            "open" => {
-                self.open(value(values, 0)?);
-                Some(1)
-            }
-            "entry" => {
-                self.enter(value(values, 0)?, value(values, 1)?, value(values, 2)?)?;
-                Some(3)
-            }
-            _ => self.set_registers(word, values),
-        }
-    }
+    pub const HI: u64 = 0x6869;
 
-    fn set_register(&mut self, register: usize, value: u64) -> Option<()> {
-        *self.state.regs.get_mut(register)? = value;
-        Some(())
-    }
+    pub const LO: u64 = 0x6c6f;
 
-    /// Registers, and what goes on with them.
-    fn set_registers(&mut self, word: &str, values: &[&str]) -> Option<usize> {
-        match word {
-            "r" => {
-                self.set_register(size(values, 0)?, value(values, 1)?)?;
-                Some(2)
-            }
-            "call" => {
-                for (k, register) in [2, 4, 5, 6].into_iter().enumerate() {
-                    self.set_register(register, value(values, k)?)?;
-                }
-                Some(4)
-            }
-            "answers" => {
-                self.go();
-                self.set_register(2, value(values, 0)?)?;
-                self.set_register(7, value(values, 1)?)?;
-                Some(2)
-            }
-            "goes" => {
-                self.go();
-                Some(0)
-            }
-            "counted" => {
-                self.count();
-                Some(0)
-            }
-            _ => self.set_answer(word, values),
-        }
-    }
+    pub const HEAP: u64 = 0x6865_6170;
 
-    fn set_answer(&mut self, word: &str, values: &[&str]) -> Option<usize> {
-        let first = value(values, 0)?;
-        let (answer, taken) = match word {
-            "wrote" => (Answer::Wrote(first, value(values, 1)?), 2),
-            "gave" => (Answer::Hint(first), 1),
-            "left" => (Answer::Exited(u8::try_from(first).ok()?), 1),
-            "refused" => (Answer::Refused(refusal(first)?), 1),
-            _ => return None,
-        };
-        self.answer = answer;
-        Some(taken)
-    }
+    pub const STEPS: u64 = 0x73_7465_7073;
+
+    pub const OFFSET: u64 = 0x6f66_6673_6574;
+
+    pub const HELD: u64 = 0x6865_6c64;
+
+    pub const USED: u64 = 0x7573_6564;
+
+    pub const PAGESIZE: u64 = 0x7061_6765_7369_7a65;
+
+    pub const HINTSIZE: u64 = 0x6869_6e74_7369_7a65;
+
+    pub const OUTSIZE: u64 = 0x6f_7574_7369_7a65;
+
+    pub const IDXSIZE: u64 = 0x69_6478_7369_7a65;
+
+    pub const DATASIZE: u64 = 0x6461_7461_7369_7a65;
+
+    // Single bytes.
+    pub const EXITED: u64 = 0x6578_6974_6564;
+
+    pub const CODE: u64 = 0x636f_6465;
+
+    pub const RULES: u64 = 0x72_756c_6573;
+
+    // Buffers.
+    pub const KEY: u64 = 0x6b_6579;
+
+    pub const HINT: u64 = 0x6869_6e74;
+
+    pub const OUTPUT: u64 = 0x6f75_7470_7574;
+
+    pub const INDEX: u64 = 0x69_6e64_6578;
+
+    pub const DATA: u64 = 0x6461_7461;
+
+    pub const PAGES: u64 = 0x70_6167_6573;
+
+    // What sets several things.
+    pub const MEM: u64 = 0x6d_656d;
+
+    pub const R: u64 = 0x72;
+
+    pub const CALL: u64 = 0x6361_6c6c;
+
+    pub const ENTRY: u64 = 0x65_6e74_7279;
+
+    pub const ANSWERS: u64 = 0x61_6e73_7765_7273;
+
+    pub const GOES: u64 = 0x676f_6573;
+
+    pub const COUNTED: u64 = 0x63_6f75_6e74_6564;
+
+    pub const WROTE: u64 = 0x77_726f_7465;
+
+    pub const GAVE: u64 = 0x6761_7665;
+
+    pub const LEFT: u64 = 0x6c65_6674;
+
+    pub const REFUSED: u64 = 0x72_6566_7573_6564;
+
+    pub const OPEN: u64 = 0x6f70_656e;
 }

@@ -1,14 +1,17 @@
 -- Lines behind lines.
-use Rattle.std.proofs.Common.{◌≡◌, ℕ, zero, suc, ◌+◌, ◌-◌, ◌*◌, ◌/◌, ◌%◌, ◌^◌, ◌<◌, ◌≤◌, min, List, [], ◌∷◌, ◌++◌, length, take, drop, sym, refl, ap, subst, ◌∙◌, append_assoc, append-nil, add-zero, add-suc, arith, length-append, length-drop, length-take-le, take_all}
+use Rattle.std.proofs.Common.{◌≡◌, ℕ, zero, suc, ◌+◌, ◌-◌, ◌*◌, ◌/◌, ◌%◌, ◌^◌, ◌<◌, ◌≤◌, min, List, [], ◌∷◌, ◌++◌, length, take, drop, sym, refl, ap, subst, ◌∙◌, append_assoc, append-nil, add-zero, add-suc, arith, length-append, length-drop, length-take-le, take_all, le-leb}
 use Rattle.std.proofs.lemmas.List.{take-append-drop}
-use lib.Seq.{take-append-le, drop-append-le, drop-append-add}
+use lib.Seq.{sets, length-sets, sets-eq, take-append_seam, take-append-le, drop-append-le, drop-append-add}
+use borrow.Author.Tests.{lt-leb}
 use Rattle.std.proofs.Math.Seq.{take-append-add}
 use native.Mathlib.Decide.{dec_le}
 use Rattle.std.specs.declared.option.Option.{Option}
 use Rattle.std.specs.Io.KnownBytes.{Appends}
 use Rattle.std.proofs.KnownBytes.{Appends-nil, Appends-trans}
 use Rattle.checker.specs.Check.{check_def}
-use Rattle.check_records.specs.Lines.{line, record_at, position_at, lines_to, count_of, lines_of, after, whole_records}
+use Rattle.check_records.specs.Lines.{line, record_at, position_at, lines_to, count_of, lines_of, after, whole_records, Printed, printed, printed_def}
+use Rattle.check_records.specs.Parts.{Puts}
+use Rattle.check_records.proofs.Lengths.{length_all}
 
 -- ---- chunk by chunk
 
@@ -113,5 +116,36 @@ pub none_written : (a : Option (List ℕ)) → Appends a a (lines_of 0 [])
 none_written a = subst (Appends a a) (sym (no_lines 0 [] refl)) (Appends-nil a)
 
 -- the position behind a chunk of 87 records
-pub chunk_after : (seen part : List ℕ) (from : ℕ) → from ≡ after 0 seen → length seen % 752 ≡ 0 → length part ≡ 65424 → (from + 87) % 2 ^ 64 ≡ after 0 (seen ++ part)
-chunk_after seen part from e h size = omega (arith, e, length-append seen part)
+pub chunk_after : (seen part chunk : List ℕ) (from : ℕ) → from ≡ after 0 seen → length seen % 752 ≡ 0 → length part ≡ 65424 → length chunk ≡ 65424 → after from chunk ≡ after 0 (seen ++ part)
+chunk_after seen part chunk from e h size all = omega (arith, e, length-append seen part)
+
+-- ---- what `print` leaves
+
+pub prints : (from : ℕ) (b o : List ℕ) {e all : List ℕ} {n : ℕ} → 32 * count_of b ≤ length o → all ≡ lines_of from b → Puts o 0 all n e → printed n e ≡ printed_def from b o
+unfolding printed_def
+prints from b o {e} {all} {n} h whole p =
+    let z : n ≡ length all = omega (arith, p.place) in
+    rw (le-leb (32 * count_of b) (length o) h, z, p.bytes, ← whole)
+
+pub prints_none : (from : ℕ) (b o : List ℕ) → length o < 32 * count_of b → printed 0 o ≡ printed_def from b o
+unfolding printed_def
+prints_none from b o h = rw (lt-leb (32 * count_of b) (length o) h)
+
+-- what a caller with enough room has
+module _ (from : ℕ) (b o : List ℕ) (room : 32 * count_of b ≤ length o) (e : List ℕ) (n : ℕ) (p : printed n e ≡ printed_def from b o) where
+  lines_put : printed n e ≡ printed (length (lines_of from b)) (sets o 0 (lines_of from b))
+  unfolding printed_def
+  lines_put = p ∙ rw (le-leb (32 * count_of b) (length o) room)
+
+  lines_fit : length (lines_of from b) ≤ length o
+  lines_fit = omega (arith, length_all from b)
+
+  pub printed_within : n ≤ length e
+  printed_within = omega (arith, ap (λ (q : Printed). q.count) lines_put, ap (λ (q : Printed). length q.out) lines_put, length-sets o 0 (lines_of from b), lines_fit)
+
+  -- the first n bytes are the lines
+  pub printed_front : take n e ≡ lines_of from b
+  printed_front =
+      let c : n ≡ length (lines_of from b) = ap (λ (q : Printed). q.count) lines_put in
+      let s = sets-eq (lines_of from b) o 0 (omega (arith, lines_fit)) in
+      rw (c, ap (λ (q : Printed). q.out) lines_put, s) (take-append_seam (lines_of from b) _)

@@ -1,5 +1,6 @@
 -- What is printed of step records: a line for each record of 752 bytes, and one for a short remainder.
-use Rattle.std.specs.Prelude.{ℕ, zero, suc, ◌+◌, ◌*◌, ◌/◌, ◌%◌, ◌^◌, List, [], ◌++◌, length, take, drop, Ok, Err, ◌-◌, codes, decimal}
+use Rattle.std.specs.Prelude.{ℕ, zero, suc, ◌+◌, ◌*◌, ◌/◌, ◌%◌, ◌^◌, cond, List, [], ◌++◌, length, take, drop, nat_le, Ok, Err, ◌-◌, codes, decimal}
+use Rattle.std.proofs.lemmas.List.Edits.{sets}
 use Rattle.checker.specs.Verdicts.{Verdict, fault_number}
 use Rattle.checker.specs.Check.{check_def}
 
@@ -47,3 +48,17 @@ after from b = position_at from (length b / 752)
 
 abbrev pub whole_records : List ℕ → List ℕ
 whole_records b = take (length b - length b % 752) b
+
+-- ---- what `print` leaves
+
+-- how many bytes the lines have, and the output buffer
+pub record Printed : Type 0 where
+  pub count : ℕ
+  pub out : List ℕ
+
+abbrev pub printed : ℕ → List ℕ → Printed
+printed n o = record { count = n; out = o }
+
+-- the lines at the front of the buffer, where it has 32 bytes for each; otherwise it stays
+unfoldable pub printed_def : ℕ → List ℕ → List ℕ → Printed
+printed_def from b o = cond (nat_le (32 * count_of b) (length o)) (printed (length (lines_of from b)) (sets o 0 (lines_of from b))) (printed 0 o)

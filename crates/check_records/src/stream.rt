@@ -1,11 +1,10 @@
 //! A stream of step records in, a line for each out.
 ghost use Rattle.std.specs.Prelude.{◌≡◌, ◌≢◌, ◌<◌, ◌≤◌, List, ℕ, length, take, IsOk, Err, OnOk, IfSome};
 ghost use Rattle.std.specs.Io.KnownBytes.{Appends, Consumes, IsAtEnd};
-ghost use Rattle.check_records.specs.Lines.{line as line_of, lines_of, whole_records};
+ghost use Rattle.check_records.specs.Lines.{count_of, lines_of, whole_records};
 ghost use Rattle.check_records.specs.declared.stream.Stop.TheVariants.{Unread};
 
-use checker::check;
-use checker::verdict::Fault;
+use crate::lines::{LINE, after, print};
 use interpreter::record::Record;
 use std::io;
 use std::io::{Read, Write};
@@ -16,8 +15,8 @@ const RECORDS: usize = 87;
 /// How many bytes they have.
 const CHUNK: usize = RECORDS * Record::SIZE;
 
-/// Room for their lines. A line has at most 32 bytes: 20 digits, a space, `refused 27` and the line end.
-pub const TEXT: usize = RECORDS * 32;
+/// Room for their lines.
+pub const TEXT: usize = RECORDS * LINE;
 
 /// Why a stream was not judged to its end.
 #[derive(Clone, Copy, Debug, PartialEq, Eq, Drop)]
@@ -49,34 +48,20 @@ fn fill<R: Read>(input: &mut R, buf: &mut [u8]) -> (usize, io::Result<()>)
     (done, Ok(()))
 }
 
-/// Writes a record's line.
-#[tactic(auto, unfolding(crate::specs::Lines::line, crate::specs::Lines::said))]
-fn line<W: Write>(output: &mut W, position: u64, verdict: Result<(), Fault>) -> io::Result<()>
-    ensures { OnOk result (Appends (W.contents output.old) (W.contents output.new) (line_of position verdict)) }
-{
-    match verdict {
-        Ok(()) => writeln!(output, "{position} accepted"),
-        Err(fault) => {
-            let number = u8::from(fault);
-            writeln!(output, "{position} refused {number}")
-        }
-    }
-}
-
-/// Writes a line for each record, and one for a short remainder. The first record has the position `from`.
+/// Writes a line for each record, and one for a short remainder, with one write. The first record has the position `from`.
 fn lines<W: Write>(output: &mut W, records: &[u8], from: u64) -> io::Result<()>
+    requires { count_of records.now ≤ RECORDS }
     ensures { OnOk result (Appends (W.contents output.old) (W.contents output.new) (lines_of from records.now)) }
 {
-    let mut position = from;
-    for record in records.chunks(Record::SIZE) {
-        line(output, position, check::check(record))?;
-        position = position.wrapping_add(1);
-    }
+    let mut text = [0u8; TEXT];
+    let count = print(records, from, &mut text);
+    output.write_all(&text[..count])?;
     output.flush()
 }
 
 /// Writes the lines of records, and says on standard error if that fails.
 fn answer<W: Write>(rt: &impl Eprint, output: &mut W, records: &[u8], from: u64) -> Result<(), Stop>
+    requires { count_of records.now ≤ RECORDS }
     ensures written { OnOk result (Appends (W.contents output.old) (W.contents output.new) (lines_of from records.now)) }
     ensures failed { result ≢ Err Unread }
 {
@@ -108,7 +93,7 @@ pub fn judge<R: Read, W: Write>(rt: &impl Eprint, input: &mut R, output: &mut W)
         if count < CHUNK {
             return Ok(());
         }
-        from = from.wrapping_add(RECORDS as u64);
+        from = after(&records, from);
     }
     Err(Stop::Endless)
 }

@@ -17,8 +17,8 @@ const LONG: usize = 65536;
 // The most bytes of a short one.
 const SHORT: usize = 256;
 
-// A hint's length stands before it.
-const LENGTH: usize = 4;
+/// A hint's length stands before it.
+pub const LENGTH: usize = 4;
 
 /// The most hint bytes that are held: 65,536.
 pub const ROOM: u64 = LONG as u64;

@@ -67,7 +67,10 @@ impl JType {
 
 /// Codes of the opcode field. BEQL is known, and always refused.
 // Codes are associated constants and no enum: document 01 names that form, and a code is compared as the number that a word holds.
-pub struct Opcode;
+#[derive(Clone, Copy)]
+pub struct Opcode {
+    pub code: u64,
+}
 
 impl Opcode {
     /// The opcode field of an instruction word: its 6 highest bits.
@@ -165,7 +168,10 @@ impl Opcode {
 }
 
 /// Codes of the function field under SPECIAL.
-pub struct SpecialFunction;
+#[derive(Clone, Copy)]
+pub struct SpecialFunction {
+    pub code: u64,
+}
 
 impl SpecialFunction {
     pub const SLL: u64 = 0x00;
@@ -264,7 +270,10 @@ impl SpecialFunction {
 }
 
 /// Codes of the function field under SPECIAL2. isa.rs has CLO and CLZ the other way round, and so has its loop.
-pub struct Special2Function;
+#[derive(Clone, Copy)]
+pub struct Special2Function {
+    pub code: u64,
+}
 
 impl Special2Function {
     pub const MUL: u64 = 0x02;
@@ -277,7 +286,10 @@ impl Special2Function {
 }
 
 /// Codes of the rt field under REGIMM.
-pub struct RegImmFunction;
+#[derive(Clone, Copy)]
+pub struct RegImmFunction {
+    pub code: u64,
+}
 
 impl RegImmFunction {
     pub const BLTZ: u64 = 0x00;

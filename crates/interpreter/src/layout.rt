@@ -10,7 +10,10 @@ use crate::state::{Cpu, State};
 use pages::bytes;
 
 /// Where a state's parts stand in its bytes.
-pub struct Layout;
+#[derive(Clone, Copy)]
+pub struct Layout {
+    pub at: usize,
+}
 
 impl Layout {
     /// How many bytes a number has.

@@ -5,7 +5,10 @@ ghost use Rattle.interpreter.specs.Calls.{bad_descriptor, mmap, reading, writing
 use crate::bits;
 
 /// Errors, by number. Constants of types, as in document 01, here and below.
-pub struct Errno;
+#[derive(Clone, Copy)]
+pub struct Errno {
+    pub number: u64,
+}
 
 impl Errno {
     /// No such descriptor.
@@ -16,7 +19,10 @@ impl Errno {
 }
 
 /// Descriptors, by number.
-pub struct Fd;
+#[derive(Clone, Copy)]
+pub struct Fd {
+    pub number: u64,
+}
 
 impl Fd {
     pub const STDIN: u64 = 0;
@@ -35,7 +41,10 @@ impl Fd {
 }
 
 /// Calls, by number.
-pub struct Syscall;
+#[derive(Clone, Copy)]
+pub struct Syscall {
+    pub number: u64,
+}
 
 impl Syscall {
     pub const READ: u64 = 5000;

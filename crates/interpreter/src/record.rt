@@ -18,7 +18,10 @@ use crate::{cpu, layout, step, syscall};
 use pages::bytes;
 
 /// Where a record's parts stand in its bytes: two states, the instruction, and the touched eight bytes before and after.
-pub struct Record;
+#[derive(Clone, Copy)]
+pub struct Record {
+    pub at: usize,
+}
 
 impl Record {
     /// How many spare bytes follow the instruction.

@@ -7,6 +7,28 @@ use crate::page::{NoRecordLeft, PageError, Pages, PagesMut, fits};
 use std::error::Error;
 use std::fmt;
 
+/// Four bytes, the highest first.
+#[derive(Clone, Copy)]
+pub struct Word {
+    pub value: u32,
+}
+
+impl Word {
+    /// How many bytes a word has, and what its address is a multiple of.
+    pub const SIZE: u64 = 4;
+}
+
+/// Eight bytes, the highest first.
+#[derive(Clone, Copy)]
+pub struct Doubleword {
+    pub value: u64,
+}
+
+impl Doubleword {
+    /// How many bytes a doubleword has, and what its address is a multiple of.
+    pub const SIZE: u64 = 8;
+}
+
 /// Why nothing was loaded.
 #[derive(Clone, Copy, Debug, PartialEq, Eq)]
 pub enum LoadError {

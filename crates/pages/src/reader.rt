@@ -29,7 +29,10 @@ impl<'a> Pages<'a> {
         ensures { buf.new ≡ span (byte_at self.now.bytes.now self.now.used) address (length buf.old) }
     {
         match self.place_of(address) {
-            Some(at) => buf.copy_from_slice(&self.bytes[at..at + buf.len()]),
+            Some(at) => {
+                let count = buf.len();
+                spans::copy(self.bytes, at, buf, 0, count);
+            }
             None => buf.fill(0),
         }
     }
@@ -104,8 +107,9 @@ pub fn copy_out(pages: &[u8], used: usize, address: u64, buf: &mut [u8], at: usi
         return;
     }
     let part = &mut buf[at..at + count];
-    match Pages::new(pages, used) {
-        Ok(records) => records.copy(address, part),
+    let mut reader = MemoryReader::new(pages, used, address, count as u64);
+    match reader.read(part) {
+        Ok(_) => {}
         Err(PageError::Overused) => part.fill(0),
     }
 }

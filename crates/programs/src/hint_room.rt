@@ -6,7 +6,8 @@ use pages::bytes;
 use std::io;
 
 /// One write of count bytes from 2000 on. Says the answer, the hint length and the step count then, and the bytes on both
-/// sides of place 65,536.
+/// sides of place 65,536. A function of its own, so that its buffer stands on the stack once.
+#[inline(never)]
 fn write(rt: &impl Print, held: u64, count: u64) -> io::Result<()> {
     let mut machine = Machine::greeting(1, &[0x0000_000c]);
     machine.state.regs[2] = 5001;

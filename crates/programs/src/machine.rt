@@ -7,7 +7,7 @@ use pages::page::Page;
 use std::io;
 
 /// A machine with two page records, of which those that are needed are used.
-#[derive(Drop)]
+#[derive(Clone, Copy)]
 pub struct Machine {
     pub state: State,
     pub pages: [u8; 2 * Page::RECORD_SIZE],
@@ -49,7 +49,8 @@ impl Machine {
         machine
     }
 
-    /// The same with "geodesy\n" at 0x2000.
+    /// The same with "geodesy\n" at 0x2000. Made where the caller wants it, and not copied there.
+    #[inline(never)]
     pub fn greeting(rules: u8, program: &[u32]) -> Machine {
         let mut machine = Machine::new(rules, program);
         machine.put(0x2000, 0x6765_6f64);

@@ -53,6 +53,7 @@ const WRITES: [u32; 13] = [
     0x0000_000c, // 1030 syscall
 ];
 
+#[inline(never)]
 fn whole(rt: &impl Print) -> io::Result<()> {
     print!(rt; "a loop: ")?;
     Machine::new(1, &SUM).go(rt, 1000)?;
@@ -60,6 +61,7 @@ fn whole(rt: &impl Print) -> io::Result<()> {
     Machine::new(1, &CALL).go(rt, 1000)
 }
 
+#[inline(never)]
 fn writes(rt: &impl Print) -> io::Result<()> {
     let mut machine = Machine::greeting(0, &WRITES);
     print!(rt; "output, first write: ")?;
@@ -74,6 +76,7 @@ fn writes(rt: &impl Print) -> io::Result<()> {
 
 /// The loop again: 20 steps are the first and four turns and three quarters of the fifth, so register 3 is 10 + 9 + 8 + 7 + 6 and
 /// pc stands at the delay slot. 24 more end it. A third run finds it exited.
+#[inline(never)]
 fn in_parts(rt: &impl Print) -> io::Result<()> {
     let mut machine = Machine::new(1, &SUM);
     print!(rt; "a budget of 20: ")?;
@@ -86,6 +89,7 @@ fn in_parts(rt: &impl Print) -> io::Result<()> {
 
 /// Refusals stop a run, and are not counted: a reserved instruction behind one that is not; rules 2, which budget 0 does not
 /// see.
+#[inline(never)]
 fn refusals(rt: &impl Print) -> io::Result<()> {
     let program = [0x2403_0009, 0xf800_0000];
     print!(rt; "a reserved instruction: ")?;
@@ -96,6 +100,7 @@ fn refusals(rt: &impl Print) -> io::Result<()> {
     Machine::new(2, &program).go(rt, 1)
 }
 
+/// Each part is a function of its own, so that only its machines stand on the stack.
 fn main(rt: HostRuntime) -> io::Result<()> {
     whole(&rt)?;
     writes(&rt)?;

@@ -132,6 +132,7 @@ fn too_short(rt: &impl Print) -> io::Result<()> {
     println!(rt; "  leaves the state: {stays}")
 }
 
+#[inline(never)]
 pub fn all(rt: &impl Print) -> io::Result<()> {
     store(rt)?;
     calls(rt)?;

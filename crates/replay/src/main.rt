@@ -3,13 +3,11 @@
 //! lists are made and what their form is.
 #![tactic(auto)]
 
-ghost use Rattle.std.specs.Prelude.{◌≤◌, IfOk, IfSome};
-
 mod machine;
 mod second;
 mod vector;
 
-use crate::machine::Replayed;
+use crate::machine::{Buffers, Replayed};
 use interpreter::step::Answer;
 use std::io::Read;
 use std::rt::Files;
@@ -79,20 +77,19 @@ fn is_filled(list: &mut impl Read, buf: &mut [u8]) -> io::Result<bool> {
     }
 }
 
-/// Reads the next vector behind its length to the front of v, and answers how long it is. `None` where the list is cut short.
-fn next(list: &mut impl Read, v: &mut [u8; 8192]) -> io::Result<Option<usize>>
-    ensures { IfOk result (λ read. IfSome read (λ size. size ≤ 8192)) }
-{
+/// Reads the next vector behind its length to the front of v, over what an earlier one left there, and answers whether it could:
+/// not where the list is cut short.
+fn next(list: &mut impl Read, v: &mut [u8; 8192]) -> io::Result<bool> {
     let mut head = [0u8; 4];
     if !is_filled(list, &mut head)? {
-        return Ok(None);
+        return Ok(false);
     }
     let size = u32::from_be_bytes(head) as usize;
     if size <= 4 || v.len() <= size {
-        return Ok(None);
+        return Ok(false);
     }
     let rest = size - 4;
-    Ok(is_filled(list, &mut v[..rest])?.then_some(rest))
+    is_filled(list, &mut v[..rest])
 }
 
 /// Replays the next vector of a list.
@@ -101,14 +98,15 @@ fn turn(
     list: &mut impl Read,
     name: &str,
     v: &mut [u8; 8192],
+    buffers: &mut Buffers,
+    after: &mut Buffers,
     tally: &mut Tally,
 ) -> io::Result<()> {
-    let replayed = match next(list, v)? {
-        Some(size) => machine::replay(&v[..size]),
-        None => {
-            println!(rt; "the list is cut short")?;
-            Replayed::Differs
-        }
+    let replayed = if next(list, v)? {
+        machine::replay(v, buffers, after)
+    } else {
+        println!(rt; "the list is cut short")?;
+        Replayed::Differs
     };
     match replayed {
         Replayed::Agrees { answer, twice } => {
@@ -128,9 +126,11 @@ fn replay(rt: &impl Print, list: &mut impl Read, name: &str) -> io::Result<()> {
     is_filled(list, &mut head)?;
     let count = u32::from_be_bytes([head[8], head[9], head[10], head[11]]);
     let mut v = [0u8; 8192];
+    let mut buffers = Buffers::new();
+    let mut after = Buffers::new();
     let mut tally = Tally::default();
     for _ in 0..count {
-        turn(rt, list, name, &mut v, &mut tally)?;
+        turn(rt, list, name, &mut v, &mut buffers, &mut after, &mut tally)?;
     }
     println!(rt; "{name}: {tally}")
 }

@@ -1,23 +1,67 @@
 //! One vector of a list, behind its length (compare/README.md has the form; its offsets count the length's four bytes).
-use interpreter::effect::Refusal;
-use interpreter::step::Answer;
-use std::io;
-use std::io::Read;
+use interpreter::step::Values;
 
-fn refusal(number: u32) -> Option<Refusal> {
-    Refusal::try_from(u8::try_from(number).ok()?).ok()
+/// Reads a vector in the buffer at whose front it lies, and past its end on in the buffer: what an earlier vector left there, and
+/// then zeros.
+#[derive(Clone, Copy)]
+pub struct Reader<'a> {
+    rest: &'a [u8],
 }
 
-/// What the judge's step answered, of its kind and two values, which are 0 where the answer has none. `None` where there is no
-/// such answer.
-fn answer(kind: u8, first: u32, second: u32) -> Option<Answer> {
-    match (kind, first, second) {
-        (0, 0, 0) => Some(Answer::Stepped),
-        (1, stream, count) => Some(Answer::Wrote(u64::from(stream), u64::from(count))),
-        (2, count, 0) => Some(Answer::Hint(u64::from(count))),
-        (3, code, 0) => Some(Answer::Exited(u8::try_from(code).ok()?)),
-        (4, number, 0) => Some(Answer::Refused(refusal(number)?)),
-        _ => None,
+impl<'a> Reader<'a> {
+    pub fn new(buffer: &'a [u8]) -> Reader<'a> {
+        Reader { rest: buffer }
+    }
+
+    /// The next byte.
+    fn byte(&mut self) -> u8 {
+        let Some((byte, rest)) = self.rest.split_first() else {
+            return 0;
+        };
+        self.rest = rest;
+        *byte
+    }
+
+    /// The next bytes.
+    fn array<const N: usize>(&mut self) -> [u8; N] {
+        let mut bytes = [0u8; N];
+        for byte in &mut bytes {
+            *byte = self.byte();
+        }
+        bytes
+    }
+
+    /// The next number of four bytes.
+    fn word(&mut self) -> u32 {
+        u32::from_be_bytes(self.array())
+    }
+
+    /// The next length, of two bytes.
+    fn length(&mut self) -> usize {
+        usize::from(u16::from_be_bytes(self.array()))
+    }
+
+    /// The next bytes, as far as the buffer has so many. Zeros follow where it has fewer.
+    fn take(&mut self, count: usize) -> &'a [u8] {
+        let held = count.min(self.rest.len());
+        let (bytes, rest) = self.rest.split_at(held);
+        self.rest = rest;
+        bytes
+    }
+
+    /// Lays the next patch list into a buffer. A byte past the buffer's end is passed over.
+    pub fn patch(&mut self, buf: &mut [u8]) {
+        let count = self.length();
+        for _ in 0..count {
+            let offset = self.word() as usize;
+            let size = self.length();
+            let bytes = self.take(size);
+            let start = offset.min(buf.len());
+            let end = offset.saturating_add(size).min(buf.len());
+            for (k, byte) in buf[start..end].iter_mut().enumerate() {
+                *byte = bytes.get(k).copied().unwrap_or(0);
+            }
+        }
     }
 }
 
@@ -25,7 +69,8 @@ fn answer(kind: u8, first: u32, second: u32) -> Option<Answer> {
 #[derive(Clone, Copy)]
 pub struct Front {
     pub fill: u8,
-    pub answer: Answer,
+    /// What the judge's step answered, as the list has it: no conversion of the machine's makes an answer of the numbers.
+    pub answer: Values,
     pub used: usize,
     pub used_after: usize,
     /// How much is lent of each buffer.
@@ -36,53 +81,26 @@ pub struct Front {
     pub data: usize,
 }
 
-/// The next bytes.
-pub fn array<const N: usize>(input: &mut impl Read) -> io::Result<[u8; N]> {
-    let mut bytes = [0u8; N];
-    input.read_exact(&mut bytes)?;
-    Ok(bytes)
-}
-
-/// The next number of four bytes.
-pub fn word(input: &mut impl Read) -> io::Result<u32> {
-    Ok(u32::from_be_bytes(array(input)?))
-}
-
-/// The next length, of two bytes.
-fn length(input: &mut impl Read) -> io::Result<usize> {
-    Ok(usize::from(u16::from_be_bytes(array(input)?)))
-}
-
 impl Front {
     /// Reads a vector's front. The patch lists stand behind it.
-    pub fn read(input: &mut impl Read) -> io::Result<Front> {
-        let [_, _, _, _, _, fill, kind, _]: [u8; 8] = array(input)?;
-        let first = word(input)?;
-        let second = word(input)?;
-        let answer = answer(kind, first, second).ok_or(io::ErrorKind::InvalidData)?;
-        Ok(Front {
+    pub fn read(input: &mut Reader<'_>) -> Front {
+        let [_, _, _, _, _, fill, kind, _]: [u8; 8] = input.array();
+        let first = u64::from(input.word());
+        let second = u64::from(input.word());
+        Front {
             fill,
-            answer,
-            used: length(input)?,
-            used_after: length(input)?,
-            pages: length(input)?,
-            hint: length(input)?,
-            output: length(input)?,
-            index: length(input)?,
-            data: length(input)?,
-        })
+            answer: Values {
+                kind,
+                first,
+                second,
+            },
+            used: input.length(),
+            used_after: input.length(),
+            pages: input.length(),
+            hint: input.length(),
+            output: input.length(),
+            index: input.length(),
+            data: input.length(),
+        }
     }
-}
-
-/// Lays the next patch list into a buffer.
-pub fn patch(input: &mut impl Read, buf: &mut [u8]) -> io::Result<()> {
-    let count = length(input)?;
-    for _ in 0..count {
-        let offset = word(input)? as usize;
-        let size = length(input)?;
-        let end = offset.saturating_add(size);
-        let part = buf.get_mut(offset..end).ok_or(io::ErrorKind::InvalidData)?;
-        input.read_exact(part)?;
-    }
-    Ok(())
 }

@@ -6,13 +6,11 @@ use lib.Seq.{sets, length-sets}
 use borrow.Author.Tests.{lt-leb}
 use Rattle.pages.specs.Bytes.{cell, row, big, bytes_of}
 use Rattle.pages.proofs.Laws.Runs.{length_row, cell_row, row_ext, sets_below, sets_among}
-use Rattle.pages.proofs.Laws.Numbers.{length_bytes}
+use Rattle.pages.proofs.Laws.Numbers.{length_bytes, big_ext}
 use Rattle.std.proofs.Math.Nat.{div-div-eq-div-mul}
 use Rattle.std.specs.Int.{to_be_bytes, from_be_bytes, w64}
-use Rattle.std.specs.Str.{bytes_eq}
-use Rattle.std.proofs.lemmas.Slice.Eq.{bytes_eq-Decides}
 use Rattle.pages.specs.Calls.{number_at, copy_def}
-use Rattle.pages.proofs.Laws.Places.{number_fits, copy_fits, cell_left, cell_past, length_part, cell_part, row_whole}
+use Rattle.pages.proofs.Laws.Places.{number_fits, copy_fits, cell_left, cell_past, length_part, cell_part, row_whole, bytes_big}
 use Rattle.interpreter.proofs.Laws.Tests.{both, leb_rest}
 use Rattle.interpreter.proofs.Laws.Layout.{row_is}
 use Rattle.interpreter.specs.Inputs.{same, has_key, entry_at, first_entry, entry_of, inside, part_def, content, moving, moved, merged, shifted}
@@ -42,27 +40,57 @@ same_self n f = same_in f f n 0 (λ i l. refl)
 pub same_list : (n : ℕ) (xs ys : List ℕ) → length xs ≡ n → length ys ≡ n → same n (cell xs) 0 (cell ys) 0 ≡ true → xs ≡ ys
 same_list n xs ys p q e = sym (row_whole xs n p) ∙ row_ext n (cell xs) (cell ys) 0 0 (same_out (cell xs) (cell ys) n 0 e) ∙ row_whole ys n q
 
-by_sides : (p q : Bool) → (p ≡ true → q ≡ true) → (q ≡ true → p ≡ true) → p ≡ q
-by_sides true q f g = sym (f refl)
-by_sides false true f g = g refl
-by_sides false false f g = refl
+-- ---- keys by doublewords
 
--- the test of two lists is the definition's
-pub equal_same : (n : ℕ) (xs ys : List ℕ) → length xs ≡ n → length ys ≡ n → bytes_eq xs ys ≡ same n (cell xs) 0 (cell ys) 0
-equal_same n xs ys p q =
-    by_sides _ _ (λ e. rw ((bytes_eq-Decides xs ys).0 e) (same_self n (cell ys))) (λ e. (bytes_eq-Decides xs ys).1 (same_list n xs ys p q e))
+module _ (f g : ℕ → ℕ) (u : (k : ℕ) → f k < 256) (v : (k : ℕ) → g k < 256) where
+  -- equal doublewords have equal bytes
+  eight_out : (a b : ℕ) → big 8 f a ≡ big 8 g b → (r : ℕ) → r < 8 → f (a + r) ≡ g (b + r)
+  eight_out a b e r h =
+      let z : row f a 8 ≡ row g b 8 = sym (bytes_big 8 f a (λ k l. u (a + k))) ∙ ap (bytes_of 8) e ∙ bytes_big 8 g b (λ k l. v (b + k)) in
+      sym (cell_row f a 8 r h) ∙ ap (λ (t : List ℕ). cell t r) z ∙ cell_row g b 8 r h
 
--- at record i
-pub key_tested : (x key : List ℕ) (i m : ℕ) {b : Bool} → m ≡ 32 → i * 48 + 32 ≤ length x → length key ≡ 32 → b ≡ bytes_eq (take m (drop (i * 48) x)) key → b ≡ has_key x key i
-unfolding has_key
-key_tested x key i m d l k e =
-    let t : List ℕ = take 32 (drop (i * 48) x) in
-    let f : (j : ℕ) → j < 32 → cell t j ≡ cell x (i * 48 + j) = λ j h. cell_part x (i * 48) 32 l j h in
-    let u : same 32 (cell t) 0 (cell key) 0 ≡ same 32 (cell x) (i * 48) (cell key) 0 =
-    by_sides _ _
-    (λ z. same_in (cell x) (cell key) 32 (i * 48) (λ j h. sym (f j h) ∙ ap (cell t) (sym (zero-add j)) ∙ same_out (cell t) (cell key) 32 0 z j h))
-    (λ z. same_in (cell t) (cell key) 32 0 (λ j h. ap (cell t) (zero-add j) ∙ f j h ∙ same_out (cell x) (cell key) 32 (i * 48) z j h)) in
-    (rw d at e) ∙ equal_same 32 t key (length_part x (i * 48) 32 l) k ∙ u
+  same_more : (n a : ℕ) → same n f a g 0 ≡ true → big 8 f (a + n) ≡ big 8 g n → same (n + 8) f a g 0 ≡ true
+  same_more n a s e = same_in f g (n + 8) a (λ i h. go i h (dec_lt i n))
+    where
+      go : (i : ℕ) → i < n + 8 → Dec (i < n) → f (a + i) ≡ g (0 + i)
+      go i h (yes l) = same_out f g n a s i l
+      go i h (no l) =
+          let j : a + i ≡ a + n + (i - n) = omega arith in
+          let k : n + (i - n) ≡ 0 + i = omega arith in
+          ap f j ∙ eight_out (a + n) n e (i - n) (omega arith) ∙ ap g k
+
+  same_apart : (m n a : ℕ) → n + 8 ≤ m → (big 8 f (a + n) ≡ big 8 g n → ⊥) → same m f a g 0 ≡ false
+  same_apart m n a l h = go (same m f a g 0) refl
+    where
+      each : same m f a g 0 ≡ true → (k : ℕ) → k < 8 → f (a + n + k) ≡ g (n + k)
+      each q k b =
+          let j : a + n + k ≡ a + (n + k) = omega arith in
+          ap f j ∙ same_out f g m a q (n + k) (omega arith) ∙ ap g (zero-add (n + k))
+
+      go : (b : Bool) → same m f a g 0 ≡ b → b ≡ false
+      go true q = absurd (h (big_ext 8 f g (a + n) n (each q)))
+      go false q = refl
+
+-- at record i, once its first k doublewords are the key's
+module _ (x key : List ℕ) (i k : ℕ) (u : (j : ℕ) → cell x j < 256) (v : (j : ℕ) → cell key j < 256) (room : i * 48 + 32 ≤ length x) (long : length key ≡ 32) (few : k < 4) {m p q : ℕ} (part : m ≡ 32) (e : p ≡ number_at 8 (take m (drop (i * 48) x)) (8 * k)) (d : q ≡ number_at 8 key (8 * k)) where
+  there : p ≡ big 8 (cell x) (i * 48 + 8 * k)
+  there =
+      let f = rw part at e in
+      f
+      ∙ number_fits 8 (take 32 (drop (i * 48) x)) (8 * k) (omega (arith, length_part x (i * 48) 32 room))
+      ∙ big_ext 8 (cell (take 32 (drop (i * 48) x))) (cell x) (8 * k) (i * 48 + 8 * k) (λ j l. cell_part x (i * 48) 32 room (8 * k + j) (omega arith) ∙ ap (cell x) (omega arith))
+
+  here : q ≡ big 8 (cell key) (8 * k)
+  here = d ∙ number_fits 8 key (8 * k) (omega arith)
+
+  pub key_more : same (8 * k) (cell x) (i * 48) (cell key) 0 ≡ true → p ≡ q → same (8 * (k + 1)) (cell x) (i * 48) (cell key) 0 ≡ true
+  key_more s z =
+      let n : 8 * (k + 1) ≡ 8 * k + 8 = omega arith in
+      rw n (same_more (cell x) (cell key) u v (8 * k) (i * 48) s (sym there ∙ z ∙ here))
+
+  pub key_apart : (p ≡ q → ⊥) → has_key x key i ≡ false
+  unfolding has_key
+  key_apart z = same_apart (cell x) (cell key) u v 32 (8 * k) (i * 48) (omega arith) (λ w. z (there ∙ w ∙ sym here))
 
 -- ---- the index, record by record
 
@@ -179,12 +207,26 @@ unfolding merged moved
 merged_by b d x at offset count i r e p q = q ∙ big_eight b ∙ ap (λ (t : List ℕ). big 8 (cell t) 0) (rw e at p)
 
 -- the key moved to the front, and the bytes of x put behind it
-pub shifted_by : (key m b d : List ℕ) (x at n : ℕ) → length key ≡ 32 → length m ≡ 32 → at + n ≤ 8 → b ≡ to_be_bytes w64 x
-    → ((i : ℕ) → i < 32 - n → cell m i ≡ cell key (n + (i - 0))) → d ≡ copy_def b at m (32 - n) n → d ≡ shifted key (row (cell (bytes_of 8 x)) at n)
+pub shifted_by : (key m b d : List ℕ) (x at n : ℕ) → length key ≡ 32 → at + n ≤ 8 → m ≡ copy_def key n key 0 (32 - n) → b ≡ to_be_bytes w64 x
+    → d ≡ copy_def b at m (32 - n) n → d ≡ shifted key (row (cell (bytes_of 8 x)) at n)
 unfolding shifted
-shifted_by key m b d x at n k l f p h q =
-    q ∙ copy_fits b at m (32 - n) n (rw lb (omega arith)) (omega arith) ∙ rw e (rw lv (row_is whole n 32 (sets m (32 - n) vs) (length-sets m (32 - n) vs ∙ l) each))
+shifted_by key m b d x at n k f s p q =
+    q ∙ copy_fits b at m (32 - n) n (rw lb (omega arith)) (omega (arith, l)) ∙ rw e (rw lv (row_is whole n 32 (sets m (32 - n) vs) (length-sets m (32 - n) vs ∙ l) each))
   where
+    front : m ≡ sets key 0 (row (cell key) n (32 - n))
+    front = s ∙ copy_fits key n key 0 (32 - n) (omega arith) (omega arith)
+
+    l : length m ≡ 32
+    l = ap length front ∙ length-sets key 0 (row (cell key) n (32 - n)) ∙ k
+
+    h : (i : ℕ) → i < 32 - n → cell m i ≡ cell key (n + i)
+    h i c =
+        let long = length_row (cell key) n (32 - n) in
+        ap (λ (t : List ℕ). cell t i) front
+        ∙ ap (cell (sets key 0 (row (cell key) n (32 - n)))) (sym (zero-add i))
+        ∙ sets_among key 0 (row (cell key) n (32 - n)) i (omega (arith, long)) (omega (arith, long))
+        ∙ cell_row (cell key) n (32 - n) i c
+
     e : b ≡ bytes_of 8 x
     e = p ∙ bytes_eight x
 
@@ -204,12 +246,12 @@ shifted_by key m b d x at n k l f p h q =
     each i b = go (dec_lt i (32 - n))
       where
         go : Dec (i < 32 - n) → cell (sets m (32 - n) vs) i ≡ whole (n + i)
-        go (yes c) = sets_below m (32 - n) vs i c ∙ (rw sub-zero at (h i c)) ∙ key_front key vs (n + i) (omega arith)
+        go (yes c) = sets_below m (32 - n) vs i c ∙ h i c ∙ key_front key vs (n + i) (omega arith)
         go (no c) =
             let j : i ≡ 32 - n + (i - (32 - n)) = omega arith in
             let o : n + i - 32 ≡ i - (32 - n) = omega arith in
             let g : i - (32 - n) < length vs = omega (arith, lv) in
-            let u : 32 - n + length vs ≤ length m = omega (arith, lv) in
+            let u : 32 - n + length vs ≤ length m = omega (arith, lv, l) in
             ap (cell (sets m (32 - n) vs)) j ∙ sets_among m (32 - n) vs (i - (32 - n)) u g ∙ ap (cell vs) (sym o) ∙ key_back key vs (n + i) (omega arith)
 
 -- of a key of 32 bytes, these are the last 32 bytes of the key with vs behind it

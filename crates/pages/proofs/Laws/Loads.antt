@@ -1,5 +1,6 @@
 -- What is read at a place is what the memory that the records are has at the address.
-use Rattle.std.proofs.Common.{◌≡◌, ℕ, ◌+◌, ◌/◌, ◌%◌, ◌^◌, ◌<◌, ◌≤◌, min, List, ◌++◌, length, take, drop, sym, refl, ap, ◌∙◌, zero-add, arith, le-ltb, lt-ltb, Some, None, Option, Result, Ok, Err}
+use Rattle.std.proofs.Common.{◌≡◌, ℕ, ◌+◌, ◌/◌, ◌%◌, ◌^◌, ◌<◌, ◌≤◌, min, Bool, true, false, cond, ltb, List, ◌++◌, length, take, drop, sym, refl, ap, ◌∙◌, le_refl, zero-add, arith, ltb-true, le-ltb, lt-ltb, Some, None, Option, Result, Ok, Err}
+use native.Mathlib.Nat.{min-eq_left}
 use lib.Seq.{sets}
 use borrow.Rule.Slice.PartMut.{put_mid}
 use Rattle.pages.specs.Bytes.{cell, big, row, zeros}
@@ -11,8 +12,8 @@ use Rattle.pages.specs.declared.page.PageError.TheVariants.{Overused}
 use Rattle.pages.proofs.Laws.Runs.{row_ext, length_row, sets_join}
 use Rattle.pages.proofs.Laws.Numbers.{big_ext, big_none}
 use Rattle.pages.proofs.Laws.Std.{put_mid-sets}
-use Rattle.pages.proofs.Laws.Places.{length_part, part_put}
-use Rattle.pages.specs.Calls.{given, moved, read_def}
+use Rattle.pages.proofs.Laws.Places.{length_part, part_put, sets_whole}
+use Rattle.pages.specs.Calls.{Given, given, moved, read_some, read_def}
 use Rattle.pages.specs.declared.reader.Position.{Position}
 
 -- byte k from a place on
@@ -112,3 +113,32 @@ module _ (p : List ℕ) (used : ℕ) (s : Position) (b : List ℕ) where
       ap (λ (l : List ℕ). l ++ drop n b) (w ∙ ap (span (byte_at p used) s.address) (length_part b 0 n f))
       ∙ part_put b 0 n f (span (byte_at p used) s.address n) (length_span (byte_at p used) s.address n) in
       ap (given (Ok n) (moved s n)) rest ∙ rw (le-ltb _ _ h, e)
+
+-- ---- what copy_out takes of a reader: a buffer that holds all that may be read, or one that stays
+
+abbrev kind : Result ℕ PageError → ℕ
+kind (Ok n) = 0
+kind (Err x) = 1
+
+module _ (p : List ℕ) (used a n : ℕ) (b : List ℕ) {d : List ℕ} {t : Position} {r : Result ℕ PageError} (e : given r t d ≡ read_def p used (record { address = a; count = n }) b) where
+  pub read_whole : {i : ℕ} → r ≡ Ok i → n ≡ length b → d ≡ span (byte_at p used) a (length b)
+  unfolding read_def
+  read_whole q long = go (ltb (whole p) used) e
+    where
+      s : Position
+      s = record { address = a; count = n }
+
+      go : (c : Bool) → given r t d ≡ cond c (given (Err Overused) s b) (read_some (byte_at p used) s b (min n (length b))) → d ≡ span (byte_at p used) a (length b)
+      go true w = let z : ◌≡◌ {A = ℕ} 0 1 = sym (ap kind q) ∙ ap (λ (g : Given). kind g.answer) w in absurd (omega arith)
+      go false w = ap (λ (g : Given). g.buf) w ∙ rw (long, min-eq_left (le_refl (length b))) (sets_whole b _ (length_span _ _ _))
+
+  pub read_refused : {x : PageError} → r ≡ Err x → (d ≡ b) × (whole p < used)
+  unfolding read_def
+  read_refused q = go (ltb (whole p) used) refl e
+    where
+      s : Position
+      s = record { address = a; count = n }
+
+      go : (c : Bool) → ltb (whole p) used ≡ c → given r t d ≡ cond c (given (Err Overused) s b) (read_some (byte_at p used) s b (min n (length b))) → (d ≡ b) × (whole p < used)
+      go true h w = (ap (λ (g : Given). g.buf) w, ltb-true _ _ h)
+      go false h w = let z : ◌≡◌ {A = ℕ} 1 0 = sym (ap kind q) ∙ ap (λ (g : Given). kind g.answer) w in absurd (omega arith)

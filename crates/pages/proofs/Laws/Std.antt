@@ -1,13 +1,12 @@
 -- std's words for runs and numbers, and this repository's.
-use Rattle.std.proofs.Common.{◌≡◌, ℕ, zero, suc, ◌+◌, ◌/◌, ◌%◌, ◌≤◌, List, [], ◌∷◌, ◌++◌, length, take, drop, sym, refl, ap, ◌∙◌, append_assoc, add-one, length-drop, arith}
+use Rattle.std.proofs.Common.{◌≡◌, ℕ, zero, suc, ◌+◌, ◌/◌, ◌%◌, ◌≤◌, List, [], ◌∷◌, ◌++◌, length, take, drop, sym, refl, ap, ◌∙◌, append_assoc, add-one, arith}
 use Rattle.std.specs.Prelude.{replicate}
 use Rattle.std.proofs.Math.Nat.{div-div-eq-div-mul}
-use Rattle.std.proofs.lemmas.List.{get_or-drop, drop-drop, replicate-append-replicate}
-use Rattle.std.proofs.Math.Seq.{take-suc}
+use Rattle.std.proofs.lemmas.List.{drop-drop, replicate-append-replicate}
 use Rattle.std.proofs.lemmas.List.Edits.{sets-eq}
 use borrow.Rule.Slice.PartMut.{put_mid}
 use lib.Seq.{sets}
-use Rattle.pages.specs.Bytes.{cell, row, zeros, bytes_of}
+use Rattle.pages.specs.Bytes.{row, zeros, bytes_of}
 use Rattle.pages.proofs.Laws.Runs.{length_row}
 use Rattle.pages.proofs.Laws.Places.{length_part}
 use Rattle.pages.proofs.Laws.Numbers.{length_bytes}
@@ -25,19 +24,10 @@ unfolding row
 zeros-replicate zero = refl
 zeros-replicate (suc n) = rw add-one at (sym (replicate-append-replicate {A = ℕ} n 1 0)) ∙ ap (λ (l : List ℕ). l ++ 0 ∷ []) (zeros-replicate n)
 
-pub row-take-drop : (s : List ℕ) (a n : ℕ) → a + n ≤ length s → take n (drop a s) ≡ row (cell s) a n
-unfolding row
-row-take-drop s a zero h = refl
-row-take-drop s a (suc n) h =
-    take-suc (drop a s) n 0 (rw length-drop (omega arith)) ∙ rw (row-take-drop s a n (omega arith), get_or-drop)
-
-pub row-part : (s : List ℕ) (a n k : ℕ) → k ≡ n → a + n ≤ length s → take k (drop a s) ≡ row (cell s) a n
-row-part s a n k e h = rw e (row-take-drop s a n h)
-
 pub zeros-part : (m n : ℕ) → m ≡ n → replicate m 0 ≡ zeros n
 zeros-part m n e = rw e (zeros-replicate n)
 
--- ---- what the three writes to a part leave
+-- ---- what the two writes to a part leave
 
 module _ (s : List ℕ) (a k n : ℕ) {ys : List ℕ} (e : k ≡ n) (h : a + n ≤ length s) where
   pub filled : ys ≡ replicate (length (take k (drop a s))) 0 → put_mid a k s ys ≡ sets s a (zeros n)
@@ -45,9 +35,6 @@ module _ (s : List ℕ) (a k n : ℕ) {ys : List ℕ} (e : k ≡ n) (h : a + n �
 
   pub stored_part : (v : ℕ) → ys ≡ bytes_of n v → put_mid a k s ys ≡ sets s a (bytes_of n v)
   stored_part v q = put_mid-sets a k s ys (bytes_of n v) (length_bytes n v ∙ sym e) (omega arith) q
-
-  pub copied_part : (d : List ℕ) (f i : ℕ) → i ≡ n → f + n ≤ length d → ys ≡ take i (drop f d) → put_mid a k s ys ≡ sets s a (row (cell d) f n)
-  copied_part d f i g l q = put_mid-sets a k s ys (row (cell d) f n) (length_row _ f n ∙ sym e) (omega arith) (q ∙ row-part d f n i g l)
 
 pub bytes_of-four : (v : ℕ) → bytes_of 4 v ≡ v / 16777216 % 256 ∷ v / 65536 % 256 ∷ v / 256 % 256 ∷ v % 256 ∷ []
 unfolding bytes_of

@@ -1,4 +1,4 @@
-use Rattle.std.proofs.Common.{rules, ◌≡◌, ◌++◌, [], take, length, refl, arith, length-append, length-take-le}
+use Rattle.std.proofs.Common.{rules, ◌≡◌, ◌∙◌, ◌++◌, [], take, length, refl, arith, length-append, length-take-le}
 use Rattle.std.proofs.KnownBytes.{Consumes-nil, Consumes-trans, Consumes-whole}
 use Rattle.check_records.proofs.Laws.{chunk_written, front_written, none_written, chunk_after}
 use Rattle.check_records.proofs.stream.judge.Goals as goal
@@ -26,4 +26,4 @@ loop-preserved g c =
     let part = take c.fill-count.result.0 c.fill-count.new.buf in
     let length_part : length part ≡ 65424 = omega (arith, length-take-le c.fill-count.result.0 c.fill-count.new.buf c.fill-count.ensures.bound, c.fill-count.ensures.bound, size) in
     let all = chunk_written _ _ _ seen part c.loop.from from whole written c.in_ok-answer-2.ensures.written in
-    (seen ++ part, Consumes-trans _ _ _ seen part read c.fill-count.ensures.bytes, all, omega (arith, length-append seen part, whole, length_part), chunk_after seen part c.loop.from from whole length_part, search rules)
+    (seen ++ part, Consumes-trans _ _ _ seen part read c.fill-count.ensures.bytes, all, omega (arith, length-append seen part, whole, length_part), c.after-from.ensures ∙ chunk_after seen part c.fill-count.new.buf c.loop.from from whole length_part (search rules), search rules)

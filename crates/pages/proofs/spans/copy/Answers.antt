@@ -1,6 +1,11 @@
-use Rattle.std.proofs.Common.{arith}
-use Rattle.pages.proofs.Laws.Std.{copied_part}
+use Rattle.std.proofs.Common.{refl, length-set}
+use Rattle.pages.specs.Bytes.{row}
+use Rattle.pages.proofs.Laws.Runs.{sets_next}
 use Rattle.pages.proofs.spans.copy.Goals as goal
 
-pub returns : goal.returns
-returns c = copied_part _ _ _ _ (omega arith) (omega arith) _ _ _ (omega arith) (omega arith) c.copy_from_slice.ensures.after
+pub loop-i-init : goal.loop-i-init
+unfolding row
+loop-i-init c = (refl, refl)
+
+pub loop-i-preserved : goal.loop-i-preserved
+loop-i-preserved c = (simp length-set c.loop-i.invariant.0, sets_next _ _ _ _ _ _ _ c.loop-i.invariant.1 refl)
