@@ -21,8 +21,9 @@ pub fn clear(s: &mut [u8], at: usize, count: usize)
     s[at..at + count].fill(0);
 }
 
-// count bytes of src from one place on, to dst from another. Byte by byte, which the compiler makes one `memcpy`: by
-// `copy_from_slice` it is a `memmove`, and the library for C calls only `memcpy` and `memset` (include/rocchivanda.h).
+// count bytes of src from one place on, to dst from another. Byte by byte, which the compiler makes a `memcpy` or a loop over
+// many bytes a turn: by `copy_from_slice` it is a `memmove`, and the library for C calls only `memcpy` and `memset`
+// (include/rocchivanda.h).
 pub fn copy(src: &[u8], from: usize, dst: &mut [u8], at: usize, count: usize)
     requires { (from + count ≤ length src.now) × (at + count ≤ length dst.old) }
     ensures { dst.new ≡ sets dst.old at (row (cell src.now) from count) }
