@@ -3,6 +3,8 @@ ghost use Rattle.std.specs.Prelude.{◌≡◌, ℕ, ◌+◌, ◌≤◌, ◌⊎�
 ghost use Rattle.std.proofs.lemmas.List.Edits.{sets};
 ghost use Rattle.pages.specs.Bytes.{big, bytes_of, cell};
 
+use crate::memory::{Doubleword, Word};
+
 /// A number as it stands in memory: a word (`u32`) or a doubleword (`u64`), the highest byte first.
 pub(crate) trait Number: Copy {
     ghost SIZE: { ℕ };
@@ -34,7 +36,7 @@ impl Number for u32 {
 
     ghost value = { λ v. v };
 
-    const SIZE: usize = 4;
+    const SIZE: usize = Word::SIZE as usize;
 
     // By `from_be_bytes`, here or in `u64`, the machine's run loop takes 5 to 10 % more instructions.
     fn read(s: &[u8], at: usize) -> u64 {
@@ -55,7 +57,7 @@ impl Number for u64 {
 
     ghost value = { λ v. v };
 
-    const SIZE: usize = 8;
+    const SIZE: usize = Doubleword::SIZE as usize;
 
     // Byte by byte, as in `u32`.
     fn read(s: &[u8], at: usize) -> u64 {

@@ -58,10 +58,16 @@ pub fn read(
     }
 }
 
+/// The part of s from one place to another, as far as s has it.
+fn part(s: &[u8], from: usize, to: usize) -> &[u8] {
+    let front = &s[..to.min(s.len())];
+    &front[from.min(front.len())..]
+}
+
 /// The bytes of s from one place to another, in hexadecimal.
 pub fn bytes(rt: &impl Print, label: &str, s: &[u8], from: usize, to: usize) -> io::Result<()> {
     print!(rt; "{label}: ")?;
-    for b in s.iter().take(to).skip(from) {
+    for b in part(s, from, to) {
         print!(rt; "{b:02x}")?;
     }
     println!(rt; "")
@@ -76,6 +82,6 @@ pub fn others(
     to: usize,
     b: u8,
 ) -> io::Result<()> {
-    let n = s.iter().take(to).skip(from).filter(|x| **x != b).count();
+    let n = part(s, from, to).iter().filter(|x| **x != b).count();
     println!(rt; "{label}: differing {n}")
 }

@@ -6,7 +6,8 @@ use pages::memory;
 use pages::page::Page;
 use std::io;
 
-/// A machine with two page records, of which those that are needed are used.
+/// A machine with two page records, of which those that are needed are used. One machine is lent to all, and loaded again for each
+/// program: its pages are too large to be handed on.
 #[derive(Clone, Copy)]
 pub struct Machine {
     pub state: State,
@@ -18,9 +19,9 @@ pub struct Machine {
 impl Machine {
     pub const START: u64 = 0x1000;
 
-    /// All zero, before the first instruction of a program that is alone in memory.
-    pub fn new(rules: u8, program: &[u32]) -> Machine {
-        let state = State {
+    /// All zero, before a program's first instruction.
+    pub fn first_state(rules: u8) -> State {
+        State {
             regs: [0; 32],
             pc: Machine::START,
             next: Machine::START + 4,
@@ -34,28 +35,25 @@ impl Machine {
             exited: false,
             code: 0,
             rules,
-        };
-        let mut machine = Machine {
-            state,
-            pages: [0; 2 * Page::RECORD_SIZE],
-            used: 0,
-            output: [0; 64],
-        };
-        let mut address = Machine::START;
-        for word in program {
-            machine.put(address, *word);
-            address = address.wrapping_add(4);
         }
-        machine
     }
 
-    /// The same with "geodesy\n" at 0x2000. Made where the caller wants it, and not copied there.
-    #[inline(never)]
-    pub fn greeting(rules: u8, program: &[u32]) -> Machine {
-        let mut machine = Machine::new(rules, program);
-        machine.put(0x2000, 0x6765_6f64);
-        machine.put(0x2004, 0x6573_790a);
-        machine
+    /// The program alone in memory, before its first instruction.
+    pub fn load(&mut self, rules: u8, program: &[u32]) {
+        self.state = Machine::first_state(rules);
+        self.used = 0;
+        let mut address = Machine::START;
+        for word in program {
+            self.put(address, *word);
+            address = address.wrapping_add(4);
+        }
+    }
+
+    /// The same with "geodesy\n" at 0x2000.
+    pub fn load_greeting(&mut self, rules: u8, program: &[u32]) {
+        self.load(rules, program);
+        self.put(0x2000, 0x6765_6f64);
+        self.put(0x2004, 0x6573_790a);
     }
 
     /// Stores a word. There is room for each that is stored here.

@@ -8,6 +8,7 @@ mod machine;
 mod recording;
 
 use crate::machine::Machine;
+use pages::page::Page;
 use std::io;
 
 /// The sum of 10, 9, .. 1 in register 3, and an exit with it. One instruction, ten turns of four (the delay slot's nop runs in
@@ -53,17 +54,17 @@ const WRITES: [u32; 13] = [
     0x0000_000c, // 1030 syscall
 ];
 
-#[inline(never)]
-fn whole(rt: &impl Print) -> io::Result<()> {
+fn whole(rt: &impl Print, machine: &mut Machine) -> io::Result<()> {
     print!(rt; "a loop: ")?;
-    Machine::new(1, &SUM).go(rt, 1000)?;
+    machine.load(1, &SUM);
+    machine.go(rt, 1000)?;
     print!(rt; "a call and its return: ")?;
-    Machine::new(1, &CALL).go(rt, 1000)
+    machine.load(1, &CALL);
+    machine.go(rt, 1000)
 }
 
-#[inline(never)]
-fn writes(rt: &impl Print) -> io::Result<()> {
-    let mut machine = Machine::greeting(0, &WRITES);
+fn writes(rt: &impl Print, machine: &mut Machine) -> io::Result<()> {
+    machine.load_greeting(0, &WRITES);
     print!(rt; "output, first write: ")?;
     machine.go(rt, 1000)?;
     rt.write_all(&machine.output[..3])?;
@@ -76,9 +77,8 @@ fn writes(rt: &impl Print) -> io::Result<()> {
 
 /// The loop again: 20 steps are the first and four turns and three quarters of the fifth, so register 3 is 10 + 9 + 8 + 7 + 6 and
 /// pc stands at the delay slot. 24 more end it. A third run finds it exited.
-#[inline(never)]
-fn in_parts(rt: &impl Print) -> io::Result<()> {
-    let mut machine = Machine::new(1, &SUM);
+fn in_parts(rt: &impl Print, machine: &mut Machine) -> io::Result<()> {
+    machine.load(1, &SUM);
     print!(rt; "a budget of 20: ")?;
     machine.go(rt, 20)?;
     print!(rt; "continued: ")?;
@@ -89,23 +89,29 @@ fn in_parts(rt: &impl Print) -> io::Result<()> {
 
 /// Refusals stop a run, and are not counted: a reserved instruction behind one that is not; rules 2, which budget 0 does not
 /// see.
-#[inline(never)]
-fn refusals(rt: &impl Print) -> io::Result<()> {
-    let program = [0x2403_0009, 0xf800_0000];
+fn refusals(rt: &impl Print, machine: &mut Machine) -> io::Result<()> {
+    machine.load(1, &[0x2403_0009, 0xf800_0000]);
     print!(rt; "a reserved instruction: ")?;
-    Machine::new(1, &program).go(rt, 1000)?;
+    machine.go(rt, 1000)?;
     print!(rt; "rules 2, budget 0: ")?;
-    Machine::new(2, &program).go(rt, 0)?;
+    machine.state = Machine::first_state(2);
+    machine.go(rt, 0)?;
     print!(rt; "rules 2, budget 1: ")?;
-    Machine::new(2, &program).go(rt, 1)
+    machine.state = Machine::first_state(2);
+    machine.go(rt, 1)
 }
 
-/// Each part is a function of its own, so that only its machines stand on the stack.
 fn main(rt: HostRuntime) -> io::Result<()> {
-    whole(&rt)?;
-    writes(&rt)?;
-    in_parts(&rt)?;
-    refusals(&rt)?;
-    recording::all(&rt)?;
-    hint_room::all(&rt)
+    let mut machine = Machine {
+        state: Machine::first_state(0),
+        pages: [0; 2 * Page::RECORD_SIZE],
+        used: 0,
+        output: [0; 64],
+    };
+    whole(&rt, &mut machine)?;
+    writes(&rt, &mut machine)?;
+    in_parts(&rt, &mut machine)?;
+    refusals(&rt, &mut machine)?;
+    recording::all(&rt, &mut machine)?;
+    hint_room::all(&rt, &mut machine)
 }

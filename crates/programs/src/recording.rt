@@ -47,10 +47,10 @@ fn go(rt: &impl Print, machine: &mut Machine, buf: &mut [u8]) -> io::Result<()> 
 }
 
 /// What is recorded of a step.
-fn recorded(rt: &impl Print, mut machine: Machine) -> io::Result<()> {
+fn recorded(rt: &impl Print, machine: &mut Machine) -> io::Result<()> {
     let mut buf = [FILL; Record::SIZE];
     let before = machine.state;
-    go(rt, &mut machine, &mut buf)?;
+    go(rt, machine, &mut buf)?;
     let old = shows(&buf[Record::OLD_STATE..Record::NEW_STATE], before);
     println!(rt; "  shows the old state: {old}")?;
     let new = shows(&buf[Record::NEW_STATE..Record::WORD], machine.state);
@@ -65,77 +65,85 @@ fn recorded(rt: &impl Print, mut machine: Machine) -> io::Result<()> {
 }
 
 /// A step of which nothing is recorded.
-fn unrecorded(rt: &impl Print, mut machine: Machine) -> io::Result<()> {
+fn unrecorded(rt: &impl Print, machine: &mut Machine) -> io::Result<()> {
     let mut buf = [FILL; Record::SIZE];
-    go(rt, &mut machine, &mut buf)?;
+    go(rt, machine, &mut buf)?;
     let left = leaves(&buf);
     println!(rt; "  leaves the buffer: {left}")
 }
 
 /// sw r3, 0x2004(r0) with 9 in register 3: the doubleword at 2000 was "geodesy\n".
-fn store(rt: &impl Print) -> io::Result<()> {
-    let mut machine = Machine::greeting(1, &[0xac03_2004]);
+fn store(rt: &impl Print, machine: &mut Machine) -> io::Result<()> {
+    machine.load_greeting(1, &[0xac03_2004]);
     machine.state.regs[3] = 9;
     print!(rt; "a recorded store: ")?;
     recorded(rt, machine)
 }
 
-/// A call with its number and descriptor, of two bytes at 2003.
-fn calling(number: u64, descriptor: u64) -> Machine {
-    let mut machine = Machine::greeting(1, &[0x0000_000c]);
-    machine.state.regs[2] = number;
-    machine.state.regs[4] = descriptor;
-    machine.state.regs[5] = 0x2003;
-    machine.state.regs[6] = 2;
-    machine.state.hi = 1;
-    machine.state.lo = 2;
-    machine
+/// The state before a call with its number and descriptor, of two bytes at 2003.
+fn calling(number: u64, descriptor: u64) -> State {
+    let mut state = Machine::first_state(1);
+    state.regs[2] = number;
+    state.regs[4] = descriptor;
+    state.regs[5] = 0x2003;
+    state.regs[6] = 2;
+    state.hi = 1;
+    state.lo = 2;
+    state
 }
 
-fn calls(rt: &impl Print) -> io::Result<()> {
+/// Calls of one program, each from a state of its own.
+fn calls(rt: &impl Print, machine: &mut Machine) -> io::Result<()> {
+    machine.load_greeting(1, &[0x0000_000c]);
     // 5001 on 6 touches the eight bytes that a1 lies in, and leaves them.
     print!(rt; "a recorded write to 6: ")?;
-    recorded(rt, calling(5001, 6))?;
+    machine.state = calling(5001, 6);
+    recorded(rt, machine)?;
     // 5012 touches none.
     print!(rt; "a recorded 5012: ")?;
-    recorded(rt, calling(5012, 6))?;
+    machine.state = calling(5012, 6);
+    recorded(rt, machine)?;
     // 5001 on 1, 2 and 4 is wide, and so is 5000 on 5.
     print!(rt; "a write to 1: ")?;
-    unrecorded(rt, calling(5001, 1))?;
+    machine.state = calling(5001, 1);
+    unrecorded(rt, machine)?;
     print!(rt; "a write to 2: ")?;
-    unrecorded(rt, calling(5001, 2))?;
+    machine.state = calling(5001, 2);
+    unrecorded(rt, machine)?;
     print!(rt; "a write to 4: ")?;
-    unrecorded(rt, calling(5001, 4))?;
+    machine.state = calling(5001, 4);
+    unrecorded(rt, machine)?;
     print!(rt; "a read from 5: ")?;
-    unrecorded(rt, calling(5000, 5))
+    machine.state = calling(5000, 5);
+    unrecorded(rt, machine)
 }
 
 /// From an exited state nothing is recorded, and a reserved instruction is refused with 3.
-fn stopped(rt: &impl Print) -> io::Result<()> {
-    let mut exited = Machine::new(1, &[0x0000_000c]);
-    exited.state.exited = true;
-    exited.state.code = 7;
+fn stopped(rt: &impl Print, machine: &mut Machine) -> io::Result<()> {
+    machine.load(1, &[0x0000_000c]);
+    machine.state.exited = true;
+    machine.state.code = 7;
     print!(rt; "an exited state: ")?;
-    unrecorded(rt, exited)?;
+    unrecorded(rt, machine)?;
+    machine.load(1, &[0xf800_0000]);
     print!(rt; "a refused step: ")?;
-    unrecorded(rt, Machine::new(1, &[0xf800_0000]))
+    unrecorded(rt, machine)
 }
 
-fn too_short(rt: &impl Print) -> io::Result<()> {
-    let mut machine = Machine::new(1, &[0]);
+fn too_short(rt: &impl Print, machine: &mut Machine) -> io::Result<()> {
+    machine.load(1, &[0]);
     let mut buf = [FILL; Record::SIZE - 1];
     print!(rt; "a buffer of 751 bytes: ")?;
-    go(rt, &mut machine, &mut buf)?;
+    go(rt, machine, &mut buf)?;
     let left = leaves(&buf);
     println!(rt; "  leaves the buffer: {left}")?;
     let stays = yes(machine.state.pc == Machine::START);
     println!(rt; "  leaves the state: {stays}")
 }
 
-#[inline(never)]
-pub fn all(rt: &impl Print) -> io::Result<()> {
-    store(rt)?;
-    calls(rt)?;
-    stopped(rt)?;
-    too_short(rt)
+pub fn all(rt: &impl Print, machine: &mut Machine) -> io::Result<()> {
+    store(rt, machine)?;
+    calls(rt, machine)?;
+    stopped(rt, machine)?;
+    too_short(rt, machine)
 }
