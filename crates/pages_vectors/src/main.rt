@@ -239,20 +239,33 @@ fn across(rt: &impl Print, pages: &[u8], buf: &mut [u8]) -> io::Result<()> {
     show::bytes(rt, "front of page 7", buf, 4102, 4108)
 }
 
-fn main(rt: HostRuntime) -> io::Result<()> {
+// Three records, opened one after the other. A function of its own, as the next one, so that the pages of one alone stand on the
+// stack.
+#[inline(never)]
+fn opened(rt: &impl Print) -> io::Result<()> {
     let mut pages = filled();
     let mut buf = [0xddu8; 16];
-    let used = open_first(&rt, &mut pages)?;
-    let used = open_second(&rt, &mut pages, used)?;
-    edges(&rt, &mut pages, used)?;
-    misaligned(&rt, &mut pages, used)?;
-    let used = open_last(&rt, &mut pages, used)?;
-    let used = full(&rt, &mut pages, used)?;
-    overused(&rt, &mut pages)?;
-    wrapped(&rt, &pages, used, &mut buf)?;
-    let mut others = filled();
-    open_twice(&rt, &mut others)?;
-    twice(&rt, &mut others)?;
+    let used = open_first(rt, &mut pages)?;
+    let used = open_second(rt, &mut pages, used)?;
+    edges(rt, &mut pages, used)?;
+    misaligned(rt, &mut pages, used)?;
+    let used = open_last(rt, &mut pages, used)?;
+    let used = full(rt, &mut pages, used)?;
+    overused(rt, &mut pages)?;
+    wrapped(rt, &pages, used, &mut buf)
+}
+
+// Three records, of which two have one number.
+#[inline(never)]
+fn doubled(rt: &impl Print) -> io::Result<()> {
+    let mut pages = filled();
     let mut long = [0xddu8; 4108];
-    across(&rt, &others, &mut long)
+    open_twice(rt, &mut pages)?;
+    twice(rt, &mut pages)?;
+    across(rt, &pages, &mut long)
+}
+
+fn main(rt: HostRuntime) -> io::Result<()> {
+    opened(&rt)?;
+    doubled(&rt)
 }
