@@ -1,5 +1,5 @@
 -- UTF-8: the table's texts are the texts of std's characters.
-use Rattle.std.proofs.Common.{◌≡◌, ℕ, zero, suc, ◌+◌, ◌-◌, ◌*◌, ◌/◌, ◌<◌, ◌≤◌, ◌⊎◌, Bool, true, false, cond, ◌&&◌, ◌||◌, eqb, ltb, leb, List, [], ◌∷◌, ◌++◌, length, take, drop, IsUtf8, is_ok, Result, Ok, Err, MatchResult, sym, refl, subst, ◌∙◌, arith, le-leb, ne_eqb, le-ltb, lt-ltb, ltb-true}
+use Rattle.std.proofs.Common.{◌≡◌, ℕ, zero, suc, ◌+◌, ◌-◌, ◌*◌, ◌/◌, ◌<◌, ◌≤◌, ◌⊎◌, Bool, true, false, cond, ◌&&◌, ◌||◌, eqb, ltb, leb, List, [], ◌∷◌, ◌++◌, length, take, drop, IsUtf8, IsTrue, ◌↔◌, sym, refl, subst, ◌∙◌, arith, le-leb, ne_eqb, le-ltb, lt-ltb, ltb-true}
 use Rattle.std.proofs.lemmas.Bool.{leb-true, lt-leb}
 use Rattle.std.proofs.lemmas.Str.{IsUtf8-nil, IsUtf8-append, IsUtf8-encode}
 use Rattle.std.proofs.lemmas.List.{take-append-drop, length-append}
@@ -367,6 +367,6 @@ utf8_not t u = go (well_formed (length t) t) refl
     go true e = absurd (u (well_is (length t) t e))
     go false e = refl
 
-pub taken : {T E : Type 0} (t : List ℕ) (r : Result T E) (P : T → Type 0) (Q : E → Type 0) → MatchResult r (λ x. P x × IsUtf8 t) (λ e. (IsUtf8 t → ⊥) × Q e) → is_ok r ≡ utf8 t
-taken t (Ok x) P Q h = sym (utf8_of t h.1)
-taken t (Err e) P Q h = sym (utf8_not t h.0)
+pub told : (t : List ℕ) (b : Bool) → (IsTrue b ↔ IsUtf8 t) → b ≡ utf8 t
+told t true h = sym (utf8_of t (h.0 refl))
+told t false h = sym (utf8_not t (λ u. no_true (sym (h.1 u))))
