@@ -67,7 +67,7 @@ pub(crate) struct Pages<'a> {
 
 impl<'a> Pages<'a> {
     /// Refused where more records are said to be used than the slice has.
-    pub fn new(bytes: &'a [u8], used: usize) -> Result<Pages<'a>, PageError>
+    pub(crate) fn new(bytes: &'a [u8], used: usize) -> Result<Pages<'a>, PageError>
         ensures ok { IfOk result (λ p. (p.bytes ≡ bytes.entry) × (p.used ≡ used) × (used ≤ whole bytes.now)) }
         ensures overused { IfErr result (λ e. (e ≡ Overused) × (whole bytes.now < used)) }
     {
@@ -78,7 +78,7 @@ impl<'a> Pages<'a> {
     }
 
     /// The first used record with the number.
-    pub fn record_of(&self, number: u64) -> Option<usize>
+    pub(crate) fn record_of(&self, number: u64) -> Option<usize>
         ensures { Ok result ≡ lookup self.now.bytes.now self.now.used number }
     {
         // `chunks_exact` with `position` or `find` is 0.16 to 0.95 times as fast.
@@ -102,7 +102,7 @@ impl<'a> Pages<'a> {
     }
 
     /// The number at an aligned address, zero-extended.
-    pub fn load<T: Number>(&self, address: u64) -> u64
+    pub(crate) fn load<T: Number>(&self, address: u64) -> u64
         requires { address % T.SIZE ≡ 0 }
         ensures { result ≡ big T.SIZE (byte_at self.now.bytes.now self.now.used) address }
     {
@@ -124,7 +124,7 @@ pub(crate) struct PagesMut<'a> {
 impl<'a> PagesMut<'a> {
     /// `fits` tests what it needs.
     // Not in an `Option` from the test itself: tried, and the goals of who owns it stay open.
-    pub fn new(bytes: &'a mut [u8], used: usize) -> PagesMut<'a>
+    pub(crate) fn new(bytes: &'a mut [u8], used: usize) -> PagesMut<'a>
         requires { used ≤ whole bytes.old }
         ensures lent { result.bytes.ghost_name ≡ bytes.entry.ghost_name }
         ensures same { (result.bytes.now ≡ bytes.old) × (result.used ≡ used) }
@@ -133,7 +133,7 @@ impl<'a> PagesMut<'a> {
     }
 
     /// The same records, to be read.
-    pub fn shared(&self) -> Pages<'_>
+    pub(crate) fn shared(&self) -> Pages<'_>
         ensures { (result.bytes.now ≡ self.now.bytes.now) × (result.used ≡ self.now.used) }
     {
         Pages {
@@ -143,7 +143,7 @@ impl<'a> PagesMut<'a> {
     }
 
     /// Whether each record is used.
-    pub fn is_full(&self) -> bool
+    pub(crate) fn is_full(&self) -> bool
         ensures full { OnTrue result (self.now.used ≡ whole self.now.bytes.now) }
         ensures room { OnFalse result (self.now.used < whole self.now.bytes.now) }
     {
@@ -168,7 +168,7 @@ impl<'a> PagesMut<'a> {
     }
 
     /// Stores the number at an aligned address. An absent page takes the next record; nothing changes where none is left.
-    pub fn store<T: Number>(&mut self, address: u64, value: T) -> Result<(), NoRecordLeft>
+    pub(crate) fn store<T: Number>(&mut self, address: u64, value: T) -> Result<(), NoRecordLeft>
         requires { address % T.SIZE ≡ 0 }
         ensures lent { self.new.bytes.ghost_name ≡ self.old.bytes.ghost_name }
         ensures ok { OnOk result (stored (Ok self.new.used) self.new.bytes.now ≡ store_def self.old.bytes.now self.old.used address (bytes_of T.SIZE (T.value value))) }

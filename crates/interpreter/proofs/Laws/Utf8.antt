@@ -1,4 +1,4 @@
--- UTF-8: the table's texts are the texts of std's characters.
+-- UTF-8: the table's texts are those that std's `IsUtf8` names.
 use Rattle.std.proofs.Common.{◌≡◌, ℕ, zero, suc, ◌+◌, ◌-◌, ◌*◌, ◌/◌, ◌<◌, ◌≤◌, ◌⊎◌, Bool, true, false, cond, ◌&&◌, ◌||◌, eqb, ltb, leb, List, [], ◌∷◌, ◌++◌, length, take, drop, IsUtf8, IsTrue, ◌↔◌, sym, refl, subst, ◌∙◌, arith, le-leb, ne_eqb, le-ltb, lt-ltb, ltb-true}
 use Rattle.std.proofs.lemmas.Bool.{leb-true, lt-leb}
 use Rattle.std.proofs.lemmas.Str.{IsUtf8-nil, IsUtf8-append, IsUtf8-encode}
@@ -353,7 +353,7 @@ is_well (c ∷ cs) s n h =
     let l = led c (encodes cs) (scalar_cases c b.0) in
     step (encode c) (encodes cs) l.0 l.1 n h (is_well cs b.1)
 
--- ---- a text that std takes
+-- ---- a text that the library takes
 
 utf8_of : (t : List ℕ) → IsUtf8 t → utf8 t ≡ true
 unfolding utf8
@@ -367,6 +367,6 @@ utf8_not t u = go (well_formed (length t) t) refl
     go true e = absurd (u (well_is (length t) t e))
     go false e = refl
 
-pub told : (t : List ℕ) (b : Bool) → (IsTrue b ↔ IsUtf8 t) → b ≡ utf8 t
-told t true h = sym (utf8_of t (h.0 refl))
-told t false h = sym (utf8_not t (λ u. no_true (sym (h.1 u))))
+pub utf8_tested : (t : List ℕ) (b : Bool) → (IsTrue b ↔ IsUtf8 t) → b ≡ utf8 t
+utf8_tested t true h = sym (utf8_of t (h.0 refl))
+utf8_tested t false h = sym (utf8_not t (λ u. no_true (sym (h.1 u))))
