@@ -22,19 +22,10 @@ impl Machine {
     /// All zero, before a program's first instruction.
     pub fn first_state(rules: u8) -> State {
         State {
-            regs: [0; 32],
             pc: Machine::START,
             next: Machine::START + 4,
-            hi: 0,
-            lo: 0,
-            heap: 0,
-            step: 0,
-            offset: 0,
-            hint: 0,
-            key: [0; 32],
-            exited: false,
-            code: 0,
             rules,
+            ..State::default()
         }
     }
 
