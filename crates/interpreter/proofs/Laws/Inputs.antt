@@ -207,26 +207,12 @@ unfolding merged moved
 merged_by b d x at offset count i r e p q = q ∙ big_eight b ∙ ap (λ (t : List ℕ). big 8 (cell t) 0) (rw e at p)
 
 -- the key moved to the front, and the bytes of x put behind it
-pub shifted_by : (key m b d : List ℕ) (x at n : ℕ) → length key ≡ 32 → at + n ≤ 8 → m ≡ copy_def key n key 0 (32 - n) → b ≡ to_be_bytes w64 x
-    → d ≡ copy_def b at m (32 - n) n → d ≡ shifted key (row (cell (bytes_of 8 x)) at n)
+pub shifted_by : (key m b d : List ℕ) (x at n : ℕ) → length key ≡ 32 → length m ≡ 32 → at + n ≤ 8 → b ≡ to_be_bytes w64 x
+    → ((i : ℕ) → i < 32 - n → cell m i ≡ cell key (n + (i - 0))) → d ≡ copy_def b at m (32 - n) n → d ≡ shifted key (row (cell (bytes_of 8 x)) at n)
 unfolding shifted
-shifted_by key m b d x at n k f s p q =
+shifted_by key m b d x at n k l f p h q =
     q ∙ copy_fits b at m (32 - n) n (rw lb (omega arith)) (omega (arith, l)) ∙ rw e (rw lv (row_is whole n 32 (sets m (32 - n) vs) (length-sets m (32 - n) vs ∙ l) each))
   where
-    front : m ≡ sets key 0 (row (cell key) n (32 - n))
-    front = s ∙ copy_fits key n key 0 (32 - n) (omega arith) (omega arith)
-
-    l : length m ≡ 32
-    l = ap length front ∙ length-sets key 0 (row (cell key) n (32 - n)) ∙ k
-
-    h : (i : ℕ) → i < 32 - n → cell m i ≡ cell key (n + i)
-    h i c =
-        let long = length_row (cell key) n (32 - n) in
-        ap (λ (t : List ℕ). cell t i) front
-        ∙ ap (cell (sets key 0 (row (cell key) n (32 - n)))) (sym (zero-add i))
-        ∙ sets_among key 0 (row (cell key) n (32 - n)) i (omega (arith, long)) (omega (arith, long))
-        ∙ cell_row (cell key) n (32 - n) i c
-
     e : b ≡ bytes_of 8 x
     e = p ∙ bytes_eight x
 
@@ -246,13 +232,33 @@ shifted_by key m b d x at n k f s p q =
     each i b = go (dec_lt i (32 - n))
       where
         go : Dec (i < 32 - n) → cell (sets m (32 - n) vs) i ≡ whole (n + i)
-        go (yes c) = sets_below m (32 - n) vs i c ∙ h i c ∙ key_front key vs (n + i) (omega arith)
+        go (yes c) = sets_below m (32 - n) vs i c ∙ (rw sub-zero at (h i c)) ∙ key_front key vs (n + i) (omega arith)
         go (no c) =
             let j : i ≡ 32 - n + (i - (32 - n)) = omega arith in
             let o : n + i - 32 ≡ i - (32 - n) = omega arith in
             let g : i - (32 - n) < length vs = omega (arith, lv) in
             let u : 32 - n + length vs ≤ length m = omega (arith, lv, l) in
             ap (cell (sets m (32 - n) vs)) j ∙ sets_among m (32 - n) vs (i - (32 - n)) u g ∙ ap (cell vs) (sym o) ∙ key_back key vs (n + i) (omega arith)
+
+-- where the front is a copy of the key's rest
+pub shifted_by_copy : (key m b d : List ℕ) (x at n : ℕ) → length key ≡ 32 → at + n ≤ 8 → m ≡ copy_def key n key 0 (32 - n) → b ≡ to_be_bytes w64 x
+    → d ≡ copy_def b at m (32 - n) n → d ≡ shifted key (row (cell (bytes_of 8 x)) at n)
+shifted_by_copy key m b d x at n k f s p q = shifted_by key m b d x at n k l f p h q
+  where
+    front : m ≡ sets key 0 (row (cell key) n (32 - n))
+    front = s ∙ copy_fits key n key 0 (32 - n) (omega arith) (omega arith)
+
+    l : length m ≡ 32
+    l = ap length front ∙ length-sets key 0 (row (cell key) n (32 - n)) ∙ k
+
+    h : (i : ℕ) → i < 32 - n → cell m i ≡ cell key (n + (i - 0))
+    h i c =
+        let long = length_row (cell key) n (32 - n) in
+        rw sub-zero
+        (ap (λ (t : List ℕ). cell t i) front
+        ∙ ap (cell (sets key 0 (row (cell key) n (32 - n)))) (sym (zero-add i))
+        ∙ sets_among key 0 (row (cell key) n (32 - n)) i (omega (arith, long)) (omega (arith, long))
+        ∙ cell_row (cell key) n (32 - n) i c)
 
 -- of a key of 32 bytes, these are the last 32 bytes of the key with vs behind it
 pub shifted_key : (key vs : List ℕ) → length key ≡ 32 → shifted key vs ≡ row (cell (key ++ vs)) (length vs) (length key)
