@@ -206,7 +206,7 @@ pub merged_by : (b d : List ℕ) (x at offset count i r : ℕ) → i ≡ count �
 unfolding merged moved
 merged_by b d x at offset count i r e p q = q ∙ big_eight b ∙ ap (λ (t : List ℕ). big 8 (cell t) 0) (rw e at p)
 
--- the key moved to the front, and the bytes of x put behind it
+-- the key moved to the front, each byte named as std's `copy_within` names it (i - 0), and the bytes of x put behind it
 pub shifted_by : (key m b d : List ℕ) (x at n : ℕ) → length key ≡ 32 → length m ≡ 32 → at + n ≤ 8 → b ≡ to_be_bytes w64 x
     → ((i : ℕ) → i < 32 - n → cell m i ≡ cell key (n + (i - 0))) → d ≡ copy_def b at m (32 - n) n → d ≡ shifted key (row (cell (bytes_of 8 x)) at n)
 unfolding shifted
@@ -240,7 +240,7 @@ shifted_by key m b d x at n k l f p h q =
             let u : 32 - n + length vs ≤ length m = omega (arith, lv, l) in
             ap (cell (sets m (32 - n) vs)) j ∙ sets_among m (32 - n) vs (i - (32 - n)) u g ∙ ap (cell vs) (sym o) ∙ key_back key vs (n + i) (omega arith)
 
--- where the front is a copy of the key's rest
+-- the same where the front is a copy of the key's rest
 pub shifted_by_copy : (key m b d : List ℕ) (x at n : ℕ) → length key ≡ 32 → at + n ≤ 8 → m ≡ copy_def key n key 0 (32 - n) → b ≡ to_be_bytes w64 x
     → d ≡ copy_def b at m (32 - n) n → d ≡ shifted key (row (cell (bytes_of 8 x)) at n)
 shifted_by_copy key m b d x at n k f s p q = shifted_by key m b d x at n k l f p h q
